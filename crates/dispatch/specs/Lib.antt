@@ -1,0 +1,6 @@
+pub mod Jobs
+pub mod Sets
+pub mod WellMade
+pub mod Rules
+pub mod Refusing
+pub mod Tick

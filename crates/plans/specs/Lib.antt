@@ -1,0 +1,5 @@
+pub mod Pieces
+pub mod Interference
+pub mod Rank
+pub mod Bound
+pub mod Shape
