@@ -3,3 +3,4 @@ pub mod Interference
 pub mod Rank
 pub mod Bound
 pub mod Shape
+pub mod Certificate
