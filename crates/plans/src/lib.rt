@@ -26,6 +26,6 @@ pub struct Plan {
 
 // A local deadline less a bound: so much is left, or the bound is so much over.
 pub enum Margin {
-    Left(u64),
-    Over(u64),
+    Left(u32),
+    Over(u32),
 }

@@ -1,0 +1,53 @@
+-- What the tests of a table say, and which answer each finding gives.
+use mathlib.Core.Path.{_≡_, refl, sym, _∙_}
+use mathlib.Core.Bool.{Bool, true, false, not, _&&_}
+use Prim.Native.Nat.{ℕ, _≤_, _<_}
+use lib.Dec.{leb}
+use borrow.Author.Tests.{le-leb, lt-leb, leb-true}
+use Rattle.tasks.proofs.Below.{any-make, any-none, any-same, first-is, first-same}
+use Rattle.tasks.proofs.Bools.{both}
+use Rattle.tasks.specs.Below.{any, first}
+use Rattle.tasks.specs.Tables.{taskNo, coresFit, tasksFit, valuesFit, checkedTasks}
+use Rattle.tasks.specs.declared.Answer.the-variants.{Accepted, Refused}
+use Rattle.tasks.specs.declared.Refusal.the-variants.{CoresGiven, TasksGiven, ValuesOf}
+use Rattle.tasks.specs.declared.Task.{Task}
+
+-- 1 ≤ c ≤ d ≤ p ≤ 1,000,000, as orders
+pub record Ranges (t : Task) : Type 0 where
+  pub some : 1 ≤ t .cost
+  pub short : t .cost ≤ t .deadline
+  pub inside : t .deadline ≤ t .period
+  pub most : t .period ≤ 1000000
+
+pub values-say : (t : Task) → valuesFit t ≡ true → Ranges t
+values-say t h =
+    let a : (leb 1 (t .cost) && leb (t .cost) (t .deadline) && leb (t .deadline) (t .period) ≡ true) × (leb (t .period) 1000000 ≡ true) = both h in
+    let b : (leb 1 (t .cost) && leb (t .cost) (t .deadline) ≡ true) × (leb (t .deadline) (t .period) ≡ true) = both (a .0) in
+    let d : (leb 1 (t .cost) ≡ true) × (leb (t .cost) (t .deadline) ≡ true) = both (b .0) in
+    record { some = leb-true _ _ (d .0); short = leb-true _ _ (d .1); inside = leb-true _ _ (b .1); most = leb-true _ _ (a .1) }
+
+pub counts-say : (x most : ℕ) → leb 1 x && leb x most ≡ true → (1 ≤ x) × (x ≤ most)
+counts-say x most h = let a : (leb 1 x ≡ true) × (leb x most ≡ true) = both h in (leb-true _ _ (a .0), leb-true _ _ (a .1))
+
+-- the last of four tests decides where the others pass
+pub values-last : (t : Task) → 1 ≤ t .cost → t .cost ≤ t .deadline → t .deadline ≤ t .period → leb (t .period) 1000000 ≡ valuesFit t
+values-last t a b d = rw (le-leb 1 (t .cost) a, le-leb (t .cost) (t .deadline) b, le-leb (t .deadline) (t .period) d)
+
+module _ (m n : ℕ) (ts : ℕ → Task) where
+  pub bad-cores : coresFit m ≡ false → checkedTasks m n ts ≡ Refused (CoresGiven m)
+  unfolding checkedTasks
+  bad-cores h = rw h
+
+  module _ (cores : coresFit m ≡ true) where
+    pub bad-count : tasksFit n ≡ false → checkedTasks m n ts ≡ Refused (TasksGiven n)
+    unfolding checkedTasks
+    bad-count h = rw (cores, h)
+
+    module _ (tasks : tasksFit n ≡ true) where
+      pub bad-values : (i : ℕ) → i < n → ((k : ℕ) → k < i → valuesFit (ts k) ≡ true) → valuesFit (ts i) ≡ false → checkedTasks m n ts ≡ Refused (ValuesOf (taskNo i))
+      unfolding checkedTasks
+      bad-values i l h e = rw (cores, tasks, any-make n (λ k. not (valuesFit (ts k))) i l (rw e), first-is n (λ k. not (valuesFit (ts k))) i l (rw e) (λ j b. rw (h j b)))
+
+      pub all-good : ((k : ℕ) → k < n → valuesFit (ts k) ≡ true) → checkedTasks m n ts ≡ Accepted
+      unfolding checkedTasks
+      all-good h = rw (cores, tasks, any-none n (λ k. not (valuesFit (ts k))) (λ j b. rw (h j b)))
