@@ -1,2 +1,3 @@
 pub mod Interference
 pub mod Rank
+pub mod Sums

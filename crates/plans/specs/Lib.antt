@@ -4,3 +4,4 @@ pub mod Rank
 pub mod Bound
 pub mod Shape
 pub mod Certificate
+pub mod Leaves

@@ -1,4 +1,15 @@
-// The vocabulary of plans: pieces, plans, and the margin of a piece.
+// The vocabulary of plans: pieces, plans, and the margin of a piece; interference, rank and bound; the plan shape.
+ghost use mathlib.Core.Path.{_≡_};
+ghost use mathlib.Core.Bool.{_&&_, cond};
+ghost use Prim.Native.Nat.{ℕ, suc, _+_, _-_, _≤_, _<_};
+ghost use lib.Dec.{eqb};
+ghost use Rattle.plans.specs.Bound as meaning;
+ghost use Rattle.plans.specs.Bound.{localDeadline};
+ghost use Rattle.plans.specs.Pieces.{taskOf, pieceOf};
+ghost use Rattle.plans.specs.Pieces as pieces;
+ghost use Rattle.plans.specs.Interference.{interference};
+ghost use Rattle.plans.specs.Leaves.{Moderate};
+ghost use Rattle.plans.specs.Rank as rank;
 use tasks::CoreNo;
 use tasks::Task;
 use tasks::TaskNo;
@@ -28,4 +39,132 @@ pub struct Plan {
 pub enum Margin {
     Left(u32),
     Over(u32),
+}
+
+// Interference of a piece (e, p) in length l. For sister crates: it asks for a good task's numbers.
+pub fn interferes(e: u32, p: u32, l: u32) -> u32
+    requires { ⌜ (0 < p) × (e ≤ p) × (p ≤ 1000000) × (l ≤ 1000000) ⌝ }
+    ensures { λ r. ⌜ r ≡ interference e p l ⌝ }
+{
+    let f = l / p;
+    if f * p + e <= l {
+        (f + 1) * e
+    } else {
+        l - f * (p - e)
+    }
+}
+
+// Does piece a outrank piece b, their tasks' deadlines being given?
+pub fn outranks(a: Piece, a_deadline: u32, b: Piece, b_deadline: u32) -> bool
+    ensures { λ r. ⌜ r ≡ rank.outranks (a .kind) «a_deadline» (a .task .0) (b .kind) «b_deadline» (b .task .0) ⌝ }
+{
+    let a_kind = a.kind;
+    let b_kind = b.kind;
+    let i = a.task.index();
+    let k = b.task.index();
+    match a_kind {
+        Kind::Share => match b_kind {
+            Kind::Share => k < i,
+            Kind::Whole => true,
+        },
+        Kind::Whole => match b_kind {
+            Kind::Share => false,
+            Kind::Whole => {
+                if a_deadline < b_deadline {
+                    return true;
+                }
+                if b_deadline < a_deadline {
+                    return false;
+                }
+                i < k
+            }
+        },
+    }
+}
+
+// A piece's cost where it is task i's, otherwise 0.
+fn cost_of(z: Piece, i: usize) -> u32
+    ensures { λ r. ⌜ r ≡ cond (eqb (z .task .0) i) (z .cost) 0 ⌝ }
+{
+    if z.task.index() == i { z.cost } else { 0 }
+}
+
+// The costs of the same task's earlier pieces.
+fn earlier(plan: Plan, q: usize) -> u32
+    requires { ⌜ (q < plan .placed) × Moderate plan ⌝ }
+    ensures { λ r. ⌜ r ≡ pieces.earlier (pieceOf plan) q ⌝ }
+{
+    let z = plan.pieces[q];
+    let i = z.task.index();
+    let mut spent: u32 = 0;
+    let mut j = 0;
+    while j < q {
+        spent += cost_of(plan.pieces[j], i);
+        j += 1;
+    }
+    spent
+}
+
+// The interference in length l of piece z, of task t, on piece b: 0 unless z is on b's core and ranked above it.
+fn pressure(z: Piece, t: Task, b: Piece, b_deadline: u32, l: u32) -> u32
+    requires { ⌜ (0 < t .period) × (z .cost ≤ t .period) × (t .period ≤ 1000000) × (l ≤ 1000000) ⌝ }
+    ensures { λ r. ⌜ r ≡ cond (eqb (z .core .0) (b .core .0) && rank.outranks (z .kind) (t .deadline) (z .task .0) (b .kind) «b_deadline» (b .task .0)) (interference (z .cost) (t .period) l) 0 ⌝ }
+{
+    if z.core.index() != b.core.index() {
+        return 0;
+    }
+    if outranks(z, t.deadline, b, b_deadline) {
+        interferes(z.cost, t.period, l)
+    } else {
+        0
+    }
+}
+
+// a less b, or 0.
+fn less(a: u32, b: u32) -> u32
+    ensures { λ r. ⌜ r ≡ a - b ⌝ }
+{
+    if b < a { a - b } else { 0 }
+}
+
+// A piece's local deadline and its bound.
+pub struct Bounded {
+    pub deadline: u32,
+    pub bound: u32,
+}
+
+// Local deadline and bound of piece q. For sister crates: it asks that the plan's numbers are a good table's.
+pub fn bound_of(plan: Plan, q: usize) -> Bounded
+    requires { ⌜ (q < plan .placed) × Moderate plan ⌝ }
+    ensures { λ r. ⌜ (r .deadline ≡ localDeadline (taskOf plan) (pieceOf plan) q) × (r .bound ≡ meaning.bound (taskOf plan) (pieceOf plan) (plan .placed) q) ⌝ }
+{
+    let b = plan.pieces[q];
+    let i = b.task.index();
+    let d = plan.tasks[i].deadline;
+    let spent = earlier(plan, q);
+    let deadline = less(d, spent);
+    let n = plan.placed;
+    let mut load: u32 = 0;
+    let mut j = 0;
+    while j < n {
+        let z = plan.pieces[j];
+        let k = z.task.index();
+        load += pressure(z, plan.tasks[k], b, d, deadline);
+        j += 1;
+    }
+    Bounded {
+        deadline,
+        bound: b.cost + load,
+    }
+}
+
+// Margin is D minus bound.
+pub fn margin_of(deadline: u32, bound: u32) -> Margin
+    ensures { λ r. ⌜ r ≡ meaning.margin deadline bound ⌝ }
+{
+    if bound <= deadline {
+        Margin::Left(deadline - bound)
+    } else {
+        Margin::Over(bound - deadline)
+    }
 }

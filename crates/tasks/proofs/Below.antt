@@ -2,9 +2,9 @@
 use mathlib.Core.Path.{_≡_, refl, sym, ap, _∙_}
 use mathlib.Core.Bool.{Bool, true, false, _&&_, _||_, not, cond}
 use mathlib.Core.Logic.{_⊎_, inl, inr, ⊎-elim}
-use Prim.Native.Nat.{ℕ, zero, suc, _+_, _≤_, _<_}
+use Prim.Native.Nat.{ℕ, zero, suc, _+_, _*_, _≤_, _<_}
 use native.Mathlib.Decide.{ℕ-discrete}
-use native.Mathlib.Nat.{le-refl}
+use native.Mathlib.Nat.{le-refl, suc-mul}
 use native.Mathlib.Numerals.{add-one}
 use native.Mathlib.Omega.{arith}
 use lib.Arith.{le-zero}
@@ -141,6 +141,10 @@ pub sum-more : (n : ℕ) (f : ℕ → ℕ) → sum (n + 1) f ≡ sum n f + f n
 unfolding sum
 sum-more n f = rw add-one
 
+-- a turn of a loop that adds up
+pub sum-turn : (n : ℕ) (f : ℕ → ℕ) (acc r : ℕ) → acc ≡ sum n f → r ≡ f n → acc + r ≡ sum (n + 1) f
+sum-turn n f acc r e h = rw (e, h) (sym (sum-more n f))
+
 pub sum-add : (n : ℕ) (f h g : ℕ → ℕ) → ((j : ℕ) → j < n → f j + h j ≤ g j) → sum n f + sum n h ≤ sum n g
 unfolding sum
 sum-add zero f h g k = omega arith
@@ -150,6 +154,11 @@ pub sum-le : (n : ℕ) (f g : ℕ → ℕ) → ((j : ℕ) → j < n → f j ≤ 
 unfolding sum
 sum-le zero f g k = omega arith
 sum-le (suc n) f g k = omega (arith, sum-le n f g (λ j l. k j (omega arith)), k n (omega arith))
+
+pub sum-most : (n most : ℕ) (f : ℕ → ℕ) → ((j : ℕ) → j < n → f j ≤ most) → sum n f ≤ n * most
+unfolding sum
+sum-most zero most f h = omega arith
+sum-most (suc n) most f h = omega (arith, sum-most n most f (λ j l. h j (omega arith)), h n (omega arith), suc-mul n most)
 
 pub sum-up : (n k : ℕ) (f : ℕ → ℕ) → n ≤ k → sum n f ≤ sum k f
 unfolding sum
