@@ -1,3 +1,4 @@
 pub mod Interference
 pub mod Rank
 pub mod Sums
+pub mod Shaped

@@ -1,16 +1,22 @@
 // The vocabulary of plans: pieces, plans, and the margin of a piece; interference, rank and bound; the plan shape.
 ghost use mathlib.Core.Path.{_≡_};
-ghost use mathlib.Core.Bool.{_&&_, cond};
+ghost use mathlib.Core.Bool.{true, _&&_, cond};
 ghost use Prim.Native.Nat.{ℕ, suc, _+_, _-_, _≤_, _<_};
-ghost use lib.Dec.{eqb};
+ghost use lib.Dec.{eqb, ltb};
 ghost use Rattle.plans.specs.Bound as meaning;
 ghost use Rattle.plans.specs.Bound.{localDeadline};
-ghost use Rattle.plans.specs.Pieces.{taskOf, pieceOf};
+ghost use Rattle.plans.specs.Pieces.{noPiece, taskOf, pieceOf, costs};
+ghost use Rattle.plans.specs.Shape as shaped;
+ghost use Rattle.plans.specs.Shape.{isShare, sameTask, inOrder, isLast, pieceFits, checkedPlan};
+ghost use Rattle.tasks.specs.Below.{all};
+ghost use Rattle.tasks.specs.Tables.{noTask};
 ghost use Rattle.plans.specs.Pieces as pieces;
 ghost use Rattle.plans.specs.Interference.{interference};
 ghost use Rattle.plans.specs.Leaves.{Moderate};
 ghost use Rattle.plans.specs.Rank as rank;
+use tasks::Answer;
 use tasks::CoreNo;
+use tasks::Refusal;
 use tasks::Task;
 use tasks::TaskNo;
 
@@ -166,5 +172,201 @@ pub fn margin_of(deadline: u32, bound: u32) -> Margin
         Margin::Left(deadline - bound)
     } else {
         Margin::Over(bound - deadline)
+    }
+}
+
+// The task numbered i, or an empty one past the table.
+pub fn task_at(plan: Plan, i: usize) -> Task
+    ensures { λ r. ⌜ r ≡ taskOf plan i ⌝ }
+{
+    if i < 64 {
+        plan.tasks[i]
+    } else {
+        Task {
+            cost: 0,
+            deadline: 0,
+            period: 0,
+        }
+    }
+}
+
+// The piece at place j, or an empty one past the list.
+pub fn piece_at(plan: Plan, j: usize) -> Piece
+    ensures { λ r. ⌜ r ≡ pieceOf plan j ⌝ }
+{
+    if j < 128 {
+        plan.pieces[j]
+    } else {
+        Piece {
+            task: TaskNo(0),
+            core: CoreNo(0),
+            kind: Kind::Whole,
+            cost: 0,
+        }
+    }
+}
+
+fn is_share(k: Kind) -> bool
+    ensures { λ r. ⌜ r ≡ isShare k ⌝ }
+{
+    match k {
+        Kind::Whole => false,
+        Kind::Share => true,
+    }
+}
+
+// May b stand right after a?
+fn follows(a: Piece, b: Piece) -> bool
+    ensures { λ r. ⌜ r ≡ shaped.follows a b ⌝ }
+{
+    let i = a.task.index();
+    let k = b.task.index();
+    if k == i + 1 {
+        return true;
+    }
+    if i != k {
+        return false;
+    }
+    let a_kind = a.kind;
+    let b_kind = b.kind;
+    if !is_share(a_kind) {
+        return false;
+    }
+    if !is_share(b_kind) {
+        return false;
+    }
+    a.core.index() < b.core.index()
+}
+
+// Does piece j stand where it may, after the one before it?
+fn in_order(plan: Plan, j: usize) -> bool
+    ensures { λ r. ⌜ r ≡ inOrder (pieceOf plan) j ⌝ }
+{
+    let z = piece_at(plan, j);
+    if j == 0 {
+        z.task.index() == 0
+    } else {
+        follows(piece_at(plan, j - 1), z)
+    }
+}
+
+// Is piece j its task's last?
+pub fn is_last(plan: Plan, j: usize) -> bool
+    ensures { λ r. ⌜ r ≡ isLast (pieceOf plan) (plan .placed) j ⌝ }
+{
+    let n = plan.placed;
+    if n <= j {
+        return true;
+    }
+    if n <= j + 1 {
+        return true;
+    }
+    let a = piece_at(plan, j);
+    let b = piece_at(plan, j + 1);
+    a.task.index() != b.task.index()
+}
+
+fn wide(x: u32) -> u64
+    ensures { λ r. ⌜ (r ≡ x) × (r < 4294967296) ⌝ }
+{
+    x as u64
+}
+
+// Is piece j of the same task as the piece before it?
+fn goes_on(plan: Plan, j: usize) -> bool
+    ensures { λ r. ⌜ r ≡ ltb 0 j && sameTask (pieceOf plan (j - 1)) (pieceOf plan j) ⌝ }
+{
+    if j == 0 {
+        return false;
+    }
+    let a = piece_at(plan, j - 1);
+    let b = piece_at(plan, j);
+    a.task.index() == b.task.index()
+}
+
+// x where it is kept, otherwise 0.
+fn kept(keep: bool, x: u64) -> u64
+    ensures { λ r. ⌜ (r ≡ cond keep x 0) × (r ≤ x) ⌝ }
+{
+    if keep { x } else { 0 }
+}
+
+// Is piece j as the shape asks? `total` is what its task's pieces cost up to and with it.
+fn piece_fits(plan: Plan, j: usize, total: u64) -> bool
+    requires { ⌜ (plan .count ≤ 64) × (inOrder (pieceOf plan) j ≡ true → total ≡ costs (pieceOf plan) (pieceOf plan j .task .0) (suc j)) ⌝ }
+    ensures { λ r. ⌜ r ≡ pieceFits (plan .cores) (plan .count) (taskOf plan) (pieceOf plan) (plan .placed) j ⌝ }
+{
+    let z = piece_at(plan, j);
+    let i = z.task.index();
+    if plan.count <= i {
+        return false;
+    }
+    if plan.cores <= z.core.index() {
+        return false;
+    }
+    if z.cost < 1 {
+        return false;
+    }
+    if !in_order(plan, j) {
+        return false;
+    }
+    if !is_last(plan, j) {
+        return true;
+    }
+    total == wide(plan.tasks[i].cost)
+}
+
+// Are all pieces as the shape asks?
+fn pieces_fit(plan: Plan) -> bool
+    requires { ⌜ (plan .count ≤ 64) × (plan .placed ≤ 128) ⌝ }
+    ensures { λ r. ⌜ r ≡ all (plan .placed) (pieceFits (plan .cores) (plan .count) (taskOf plan) (pieceOf plan) (plan .placed)) ⌝ }
+{
+    let n = plan.placed;
+    let mut spent: u64 = 0;
+    let mut j = 0;
+    while j < n {
+        spent = kept(goes_on(plan, j), spent) + wide(plan.pieces[j].cost);
+        if !piece_fits(plan, j, spent) {
+            return false;
+        }
+        j += 1;
+    }
+    true
+}
+
+// Has the plan the shape?
+fn shape(plan: Plan) -> bool
+    requires { ⌜ plan .count ≤ 64 ⌝ }
+    ensures { λ r. ⌜ r ≡ shaped.shape (plan .cores) (plan .count) (taskOf plan) (pieceOf plan) (plan .placed) ⌝ }
+{
+    let n = plan.placed;
+    if n < 1 {
+        return false;
+    }
+    if 128 < n {
+        return false;
+    }
+    if !pieces_fit(plan) {
+        return false;
+    }
+    let z = piece_at(plan, n - 1);
+    z.task.index() + 1 == plan.count
+}
+
+// Is this a plan, with a good table and the shape? Any record at all may be given.
+pub fn check_plan(plan: Plan) -> Answer
+    ensures { λ r. ⌜ r ≡ checkedPlan plan ⌝ }
+{
+    let given = plan.tasks;
+    let answer = tasks::check_tasks(plan.cores, plan.count, given);
+    match answer {
+        Answer::Refused(_) => answer,
+        Answer::Accepted => {
+            if shape(plan) {
+                Answer::Accepted
+            } else {
+                Answer::Refused(Refusal::NoPlanShape)
+            }
+        }
     }
 }

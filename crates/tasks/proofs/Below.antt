@@ -121,6 +121,16 @@ first-le (suc n) f j l e = go _ refl (under l) (first-le n f j)
     go false u (inl k) ih = clash e (any-each n f u j k)
     go false u (inr q) ih = rw (u, rw q at e) (omega arith)
 
+-- what is before the first does not pass
+pub first-before : (n : ℕ) (f : ℕ → Bool) (j : ℕ) → j < first n f → f j ≡ false
+first-before n f j l = ⊎-elim (λ e. absurd (late e)) (λ e. e) (either (f j))
+  where
+    most : first n f ≤ n
+    most = ⊎-elim (λ e. omega (arith, first-holds n f e .0)) (λ e. omega (arith, first-none n f e)) (either (any n f))
+
+    late : f j ≡ true → ⊥
+    late e = omega (arith, most, first-le n f j (omega (arith, most)) e)
+
 pub first-is : (n : ℕ) (f : ℕ → Bool) (k : ℕ) → k < n → f k ≡ true → ((j : ℕ) → j < k → f j ≡ false) → first n f ≡ k
 first-is n f k l e h = go (ℕ-discrete (first n f) k)
   where

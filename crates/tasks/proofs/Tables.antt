@@ -3,11 +3,14 @@ use mathlib.Core.Path.{_≡_, refl, sym, _∙_}
 use mathlib.Core.Bool.{Bool, true, false, not, _&&_}
 use Prim.Native.Nat.{ℕ, _≤_, _<_}
 use lib.Dec.{leb}
-use borrow.Author.Tests.{le-leb, lt-leb, leb-true}
-use Rattle.tasks.proofs.Below.{any-make, any-none, any-same, first-is, first-same}
+use native.Mathlib.Omega.{arith}
+use borrow.Author.Tests.{le-leb, lt-leb, leb-true, not-true, not-false}
+use Rattle.tasks.proofs.Below.{any-make, any-each, any-none, first-holds, first-before, first-is}
 use Rattle.tasks.proofs.Bools.{both}
 use Rattle.tasks.specs.Below.{any, first}
 use Rattle.tasks.specs.Tables.{taskNo, coresFit, tasksFit, valuesFit, checkedTasks}
+use Rattle.tasks.specs.declared.Answer.{Answer}
+use Rattle.tasks.specs.declared.Refusal.{Refusal}
 use Rattle.tasks.specs.declared.Answer.the-variants.{Accepted, Refused}
 use Rattle.tasks.specs.declared.Refusal.the-variants.{CoresGiven, TasksGiven, ValuesOf}
 use Rattle.tasks.specs.declared.Task.{Task}
@@ -51,3 +54,37 @@ module _ (m n : ℕ) (ts : ℕ → Task) where
       pub all-good : ((k : ℕ) → k < n → valuesFit (ts k) ≡ true) → checkedTasks m n ts ≡ Accepted
       unfolding checkedTasks
       all-good h = rw (cores, tasks, any-none n (λ k. not (valuesFit (ts k))) (λ j b. rw (h j b)))
+
+-- what an accepted table is
+pub record GoodTable (m n : ℕ) (ts : ℕ → Task) : Type 0 where
+  pub cores : (1 ≤ m) × (m ≤ 16)
+  pub tasks : (1 ≤ n) × (n ≤ 64)
+  pub values : (i : ℕ) → i < n → Ranges (ts i)
+
+pub accepted-good : (m n : ℕ) (ts : ℕ → Task) → checkedTasks m n ts ≡ Accepted → GoodTable m n ts
+unfolding checkedTasks
+accepted-good m n ts h = go _ _ _ refl refl refl
+  where
+    bad : ℕ → Bool
+    bad i = not (valuesFit (ts i))
+
+    clashing : {A : Type 0} {r : Refusal} → _≡_ {A = Answer} (Refused r) Accepted → A
+    clashing e = let z : _≡_ {A = ℕ} 0 1 = cc in absurd (omega arith)
+
+    go : (a b c : Bool) → coresFit m ≡ a → tasksFit n ≡ b → any n bad ≡ c → GoodTable m n ts
+    go false b c p q r = clashing (sym (bad-cores m n ts p) ∙ h)
+    go true false c p q r = clashing (sym (bad-count m n ts p q) ∙ h)
+    go true true true p q r =
+        let f : (first n bad < n) × (bad (first n bad) ≡ true) = first-holds n bad r in
+        clashing (sym (bad-values m n ts p q (first n bad) (f .0) (λ k l. passes k (omega (arith, f .0)) (before k l)) (not-true _ (f .1))) ∙ h)
+      where
+        before : (k : ℕ) → k < first n bad → bad k ≡ false
+        before k l = first-before n bad k l
+
+        passes : (k : ℕ) → k < n → bad k ≡ false → valuesFit (ts k) ≡ true
+        passes k l e = not-false _ e
+    go true true false p q r = record {
+      cores = counts-say m 16 p;
+      tasks = counts-say n 64 q;
+      values = λ i l. values-say (ts i) (not-false _ (any-each n bad r i l));
+    }

@@ -1,0 +1,175 @@
+-- Laws of the plan shape: which piece may follow which, which is its task's last, and what a run of pieces in order says.
+use mathlib.Core.Path.{_≡_, refl, sym, ap, _∙_}
+use mathlib.Core.Logic.{_⊎_, inl, inr}
+use mathlib.Core.Bool.{Bool, true, false, not, _&&_, _||_, cond}
+use Prim.Native.Nat.{ℕ, zero, suc, _+_, _-_, _≤_, _<_}
+use native.Mathlib.Decide.{ℕ-discrete}
+use native.Mathlib.Nat.{le-refl}
+use native.Mathlib.Numerals.{add-one}
+use native.Mathlib.Omega.{arith}
+use lib.Dec.{leb, ltb, eqb}
+use borrow.Author.Tests.{eq-eqb, ne-eqb, eqb-true, lt-ltb, le-ltb, ltb-true, le-leb, lt-leb, leb-true}
+use Rattle.tasks.proofs.Below.{sum-none}
+use Rattle.tasks.proofs.Bools.{both, one-of}
+use Rattle.tasks.specs.Below.{sum}
+use Rattle.tasks.specs.Tables.{checkedTasks}
+use Rattle.tasks.specs.declared.Answer.the-variants.{Accepted, Refused}
+use Rattle.tasks.specs.declared.Refusal.{Refusal}
+use Rattle.tasks.specs.declared.Refusal.the-variants.{NoPlanShape}
+use Rattle.tasks.specs.declared.Task.{Task}
+use Rattle.plans.proofs.Sums.{costs-none, costs-own}
+use Rattle.plans.specs.Pieces.{taskOf, pieceOf, costs}
+use Rattle.plans.specs.Shape.{isShare, sameTask, follows, inOrder, isLast, pieceFits, shape, checkedPlan}
+use Rattle.plans.specs.declared.Piece.{Piece}
+use Rattle.plans.specs.declared.Plan.{Plan}
+
+module _ (a b : Piece) where
+  pub next-follows : b .task .0 ≡ a .task .0 + 1 → follows a b ≡ true
+  unfolding follows
+  next-follows h = rw (eq-eqb (b .task .0) (a .task .0 + 1) h)
+
+  pub other-follows : (b .task .0 ≡ a .task .0 + 1 → ⊥) → (a .task .0 ≡ b .task .0 → ⊥) → follows a b ≡ false
+  unfolding follows
+  other-follows h k = rw (ne-eqb (b .task .0) (a .task .0 + 1) h, ne-eqb (a .task .0) (b .task .0) k)
+
+  pub same-follows : a .task .0 ≡ b .task .0 → follows a b ≡ isShare (a .kind) && isShare (b .kind) && ltb (a .core .0) (b .core .0)
+  unfolding follows
+  same-follows h = rw (ne-eqb (b .task .0) (a .task .0 + 1) (λ e. omega arith), eq-eqb (a .task .0) (b .task .0) h)
+
+  -- b is the next task's or the same task's
+  pub follows-task : follows a b ≡ true → (b .task .0 ≡ a .task .0 + 1) ⊎ (a .task .0 ≡ b .task .0)
+  unfolding follows
+  follows-task h = go (one-of {a = eqb (b .task .0) (a .task .0 + 1)} h)
+    where
+      go : (eqb (b .task .0) (a .task .0 + 1) ≡ true) ⊎ (sameTask a b && isShare (a .kind) && isShare (b .kind) && ltb (a .core .0) (b .core .0) ≡ true) → (b .task .0 ≡ a .task .0 + 1) ⊎ (a .task .0 ≡ b .task .0)
+      go (inl e) = inl (eqb-true _ _ e)
+      go (inr e) = inr (eqb-true _ _ (both {a = sameTask a b} (both {a = sameTask a b && isShare (a .kind)} (both {a = sameTask a b && isShare (a .kind) && isShare (b .kind)} e .0) .0) .0))
+
+pub order-next : (pc : ℕ → Piece) (j : ℕ) → 0 < j → inOrder pc j ≡ follows (pc (j - 1)) (pc j)
+unfolding inOrder
+order-next pc zero h = absurd (omega arith)
+order-next pc (suc j) h = ap (λ (k : ℕ). follows (pc k) (pc (suc j))) (omega arith)
+
+pub last-end : (pc : ℕ → Piece) (n j : ℕ) → n ≤ suc j → isLast pc n j ≡ true
+unfolding isLast
+last-end pc n j h = rw (le-ltb (suc j) n h)
+
+pub last-before : (pc : ℕ → Piece) (n j : ℕ) → suc j < n → isLast pc n j ≡ not (sameTask (pc j) (pc (j + 1)))
+unfolding isLast
+last-before pc n j h = rw (lt-ltb (suc j) n h, add-one)
+
+-- the first k pieces are in order
+module _ (pc : ℕ → Piece) (k : ℕ) (ordered : (j : ℕ) → j < k → inOrder pc j ≡ true) where
+  step-up : (j : ℕ) → suc j < k → (pc (suc j) .task .0 ≡ pc j .task .0 + 1) ⊎ (pc j .task .0 ≡ pc (suc j) .task .0)
+  unfolding inOrder
+  step-up j h = follows-task (pc j) (pc (suc j)) (ordered (suc j) h)
+
+  -- task numbers rise
+  pub tasks-rise : (i j : ℕ) → i ≤ j → j < k → pc i .task .0 ≤ pc j .task .0
+  tasks-rise i zero h l = let e : i ≡ 0 = omega arith in rw e (le-refl _)
+  tasks-rise i (suc j) h l = go (ℕ-discrete i (suc j)) (step-up j l) (tasks-rise i j)
+    where
+      go : Dec (i ≡ suc j) → (pc (suc j) .task .0 ≡ pc j .task .0 + 1) ⊎ (pc j .task .0 ≡ pc (suc j) .task .0) → (i ≤ j → j < k → pc i .task .0 ≤ pc j .task .0) → pc i .task .0 ≤ pc (suc j) .task .0
+      go (yes e) s ih = rw e (le-refl _)
+      go (no e) (inl s) ih = omega (arith, ih (omega arith) (omega arith))
+      go (no e) (inr s) ih = omega (arith, ih (omega arith) (omega arith))
+
+  -- a task that none of them reaches has no cost among them
+  pub costs-later : (i j : ℕ) → j < k → pc j .task .0 < i → costs pc i (suc j) ≡ 0
+  unfolding costs
+  costs-later i j h l = sum-none (suc j) _ (λ x b. rw (ne-eqb (pc x .task .0) i (λ e. omega (arith, tasks-rise x j (omega arith) h))))
+
+-- the tests of one piece in their order: the first that fails decides
+module _ (m count : ℕ) (ts : ℕ → Task) (pc : ℕ → Piece) (n j : ℕ) where
+  pub no-task : count ≤ pc j .task .0 → pieceFits m count ts pc n j ≡ false
+  unfolding pieceFits
+  no-task h = rw (le-ltb (pc j .task .0) count h)
+
+  module _ (task : pc j .task .0 < count) where
+    pub no-core : m ≤ pc j .core .0 → pieceFits m count ts pc n j ≡ false
+    unfolding pieceFits
+    no-core h = rw (lt-ltb (pc j .task .0) count task, le-ltb (pc j .core .0) m h)
+
+    module _ (core : pc j .core .0 < m) where
+      pub no-cost : pc j .cost < 1 → pieceFits m count ts pc n j ≡ false
+      unfolding pieceFits
+      no-cost h = rw (lt-ltb (pc j .task .0) count task, lt-ltb (pc j .core .0) m core, lt-leb 1 (pc j .cost) h)
+
+      module _ (cost : 1 ≤ pc j .cost) where
+        pub no-order : inOrder pc j ≡ false → pieceFits m count ts pc n j ≡ false
+        unfolding pieceFits
+        no-order h = rw (lt-ltb (pc j .task .0) count task, lt-ltb (pc j .core .0) m core, le-leb 1 (pc j .cost) cost, h)
+
+        pub more-fits : inOrder pc j ≡ true → isLast pc n j ≡ false → pieceFits m count ts pc n j ≡ true
+        unfolding pieceFits
+        more-fits h l = rw (lt-ltb (pc j .task .0) count task, lt-ltb (pc j .core .0) m core, le-leb 1 (pc j .cost) cost, h, l)
+
+        pub last-fits : inOrder pc j ≡ true → isLast pc n j ≡ true → pieceFits m count ts pc n j ≡ eqb (costs pc (pc j .task .0) (suc j)) (ts (pc j .task .0) .cost)
+        unfolding pieceFits
+        last-fits h l = rw (lt-ltb (pc j .task .0) count task, lt-ltb (pc j .core .0) m core, le-leb 1 (pc j .cost) cost, h, l)
+
+  -- what a piece that fits is
+  pub record Fits : Type 0 where
+    pub task : pc j .task .0 < count
+    pub core : pc j .core .0 < m
+    pub cost : 1 ≤ pc j .cost
+    pub order : inOrder pc j ≡ true
+    pub full : isLast pc n j ≡ true → costs pc (pc j .task .0) (suc j) ≡ ts (pc j .task .0) .cost
+
+  pub fits-say : pieceFits m count ts pc n j ≡ true → Fits
+  unfolding pieceFits
+  fits-say h =
+      let t : Bool = ltb (pc j .task .0) count in
+      let u : Bool = ltb (pc j .core .0) m in
+      let v : Bool = leb 1 (pc j .cost) in
+      let a : (t && u && v && inOrder pc j ≡ true) × (not (isLast pc n j) || eqb (costs pc (pc j .task .0) (suc j)) (ts (pc j .task .0) .cost) ≡ true) = both h in
+      let b : (t && u && v ≡ true) × (inOrder pc j ≡ true) = both (a .0) in
+      let d : (t && u ≡ true) × (v ≡ true) = both (b .0) in
+      let e : (t ≡ true) × (u ≡ true) = both (d .0) in
+      record {
+        task = ltb-true _ _ (e .0);
+        core = ltb-true _ _ (e .1);
+        cost = leb-true _ _ (d .1);
+        order = b .1;
+        full = λ l. eqb-true _ _ (rw l at (a .1));
+      }
+
+-- what the piece before has used of its task's cost
+unfoldable pub soFar : (ℕ → Piece) → ℕ → ℕ
+soFar pc zero = 0
+soFar pc (suc k) = costs pc (pc k .task .0) (suc k)
+
+-- does piece j go on with the task of the piece before it?
+abbrev pub goesOn : (ℕ → Piece) → ℕ → Bool
+goesOn pc j = ltb 0 j && sameTask (pc (j - 1)) (pc j)
+
+-- a piece in order after pieces in order: what its task has used with it
+pub carried : (pc : ℕ → Piece) (j : ℕ) → ((k : ℕ) → k < j → inOrder pc k ≡ true) → inOrder pc j ≡ true → cond (goesOn pc j) (soFar pc j) 0 + pc j .cost ≡ costs pc (pc j .task .0) (suc j)
+unfolding soFar inOrder
+carried pc j ordered here = ap (λ (x : ℕ). x + pc j .cost) (go j ordered here) ∙ sym (costs-own pc j)
+  where
+    go : (j : ℕ) → ((k : ℕ) → k < j → inOrder pc k ≡ true) → inOrder pc j ≡ true → cond (goesOn pc j) (soFar pc j) 0 ≡ costs pc (pc j .task .0) j
+    go zero o h = sym (costs-none pc _)
+    go (suc k) o h = by (follows-task (pc k) (pc (suc k)) h)
+      where
+        e : suc k - 1 ≡ k
+        e = omega arith
+
+        by : (pc (suc k) .task .0 ≡ pc k .task .0 + 1) ⊎ (pc k .task .0 ≡ pc (suc k) .task .0) → cond (goesOn pc (suc k)) (soFar pc (suc k)) 0 ≡ costs pc (pc (suc k) .task .0) (suc k)
+        by (inl n) = rw (lt-ltb 0 (suc k) (omega arith), e, ne-eqb (pc k .task .0) (pc (suc k) .task .0) (λ q. omega arith)) (sym (costs-later pc (suc k) o (pc (suc k) .task .0) k (omega arith) (omega arith)))
+        by (inr s) = rw (lt-ltb 0 (suc k) (omega arith), e, eq-eqb (pc k .task .0) (pc (suc k) .task .0) s) (ap (λ (i : ℕ). costs pc i (suc k)) s)
+
+-- the answers of a plan's check, by what its tasks and its shape get
+module _ (p : Plan) where
+  pub tasks-refused : (r : Refusal) → checkedTasks (p .cores) (p .count) (taskOf p) ≡ Refused r → checkedPlan p ≡ Refused r
+  unfolding checkedPlan
+  tasks-refused r h = rw h
+
+  module _ (good : checkedTasks (p .cores) (p .count) (taskOf p) ≡ Accepted) where
+    pub shape-refused : shape (p .cores) (p .count) (taskOf p) (pieceOf p) (p .placed) ≡ false → checkedPlan p ≡ Refused NoPlanShape
+    unfolding checkedPlan
+    shape-refused h = rw (good, h)
+
+    pub shape-accepted : shape (p .cores) (p .count) (taskOf p) (pieceOf p) (p .placed) ≡ true → checkedPlan p ≡ Accepted
+    unfolding checkedPlan
+    shape-accepted h = rw (good, h)
