@@ -1,0 +1,4 @@
+pub mod Limit
+pub mod Whole
+pub mod Shared
+pub mod Layout
