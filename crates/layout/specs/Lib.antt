@@ -1,3 +1,4 @@
+pub mod Asked
 pub mod Limit
 pub mod Whole
 pub mod Shared

@@ -12,12 +12,12 @@ use Rattle.layout.specs.Limit.{limit}
 use Rattle.layout.specs.Whole.{put, isClosed}
 use Rattle.layout.specs.declared.Draft.{Draft}
 
+abbrev pub sharePiece : ℕ → ℕ → ℕ → Piece
+sharePiece i x size = record { task = taskNo i; core = coreNo x; kind = Share; cost = size }
+
 -- the draft with a share of task i on core x; the core stays open
 unfoldable pub giveShare : Draft → ℕ → ℕ → ℕ → Draft
-giveShare d i x size = record {
-  plan = put (record { task = taskNo i; core = coreNo x; kind = Share; cost = size }) (d .plan);
-  closed = d .closed;
-}
+giveShare d i x size = record { plan = put (sharePiece i x size) (d .plan); closed = d .closed }
 
 -- the draft with core x closed
 unfoldable pub close : Draft → ℕ → Draft

@@ -18,6 +18,10 @@ use Rattle.layout.specs.declared.Draft.{Draft}
 unfoldable pub put : Piece → Plan → Plan
 put z w = record { cores = w .cores; count = w .count; tasks = w .tasks; placed = w .placed + 1; pieces = set (w .pieces) (w .placed) z }
 
+-- a plan and its closed cores together
+abbrev pub draft : Plan → List Bool → Draft
+draft w closed = record { plan = w; closed = closed }
+
 abbrev pub isClosed : List Bool → ℕ → Bool
 isClosed closed x = getD closed x false
 

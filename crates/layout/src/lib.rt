@@ -1,6 +1,20 @@
 // The planner: a task table laid out over the cores of a board.
+ghost use mathlib.Core.Path.{_≡_};
+ghost use Prim.Native.Nat.{ℕ, _≤_, _<_, min};
+ghost use Rattle.tasks.specs.Below.{all, first};
+ghost use Rattle.plans.specs.Leaves.{Moderate};
+ghost use Rattle.plans.specs.Pieces.{taskOf};
+ghost use Rattle.layout.specs.Limit as limits;
+ghost use Rattle.layout.specs.Shared.{sharePiece, shareFrom};
+ghost use Rattle.layout.specs.Whole as whole;
+ghost use Rattle.layout.specs.Asked.{Ready, found};
+ghost use Rattle.layout.specs.Whole.{draft, keepsBound, takesWhole};
+use plans::Kind;
+use plans::Piece;
 use plans::Plan;
 use tasks::Answer;
+use tasks::CoreNo;
+use tasks::TaskNo;
 
 // A plan while it is laid out: its pieces so far, and which cores are closed.
 pub struct Draft {
@@ -12,4 +26,171 @@ pub struct Draft {
 pub struct Planned {
     pub answer: Answer,
     pub plan: Plan,
+}
+
+// What sharing a task out comes to: whether it is placed, and the draft then.
+struct Shared {
+    placed: bool,
+    plan: Plan,
+    closed: [bool; 16],
+}
+
+// The plan with one piece more.
+fn put(z: Piece, plan: Plan) -> Plan
+    requires { ⌜ plan .placed < 128 ⌝ }
+    ensures { λ r. ⌜ r ≡ whole.put z plan ⌝ }
+{
+    let at = plan.placed;
+    let mut next = plan;
+    next.pieces[at] = z;
+    next.placed = at + 1;
+    next
+}
+
+// Does piece q, if it is whole and on core x, keep its bound?
+fn keeps_bound(plan: Plan, x: usize, q: usize) -> bool
+    requires { ⌜ (q < plan .placed) × Moderate plan ⌝ }
+    ensures { λ r. ⌜ r ≡ keepsBound plan x q ⌝ }
+{
+    let z = plans::piece_at(plan, q);
+    if z.core.index() != x {
+        return true;
+    }
+    let kind = z.kind;
+    if plans::is_share(kind) {
+        return true;
+    }
+    let b = plans::bound_of(plan, q);
+    b.bound <= b.deadline
+}
+
+// Does every whole piece on core x keep its bound?
+fn all_keep(plan: Plan, x: usize) -> bool
+    requires { ⌜ Moderate plan ⌝ }
+    ensures { λ r. ⌜ r ≡ all (plan .placed) (keepsBound plan x) ⌝ }
+{
+    let n = plan.placed;
+    let mut q = 0;
+    while q < n {
+        if !keeps_bound(plan, x, q) {
+            return false;
+        }
+        q += 1;
+    }
+    true
+}
+
+// What piece q allows a share of a new task of period p.
+fn allowance(plan: Plan, p: u32, q: usize) -> u32
+    requires { ⌜ (0 < p) × (p ≤ 1000000) × (q < plan .placed) × Moderate plan ⌝ }
+    ensures { λ r. ⌜ (r ≡ limits.allowance plan p q) × (r ≤ 1000000) ⌝ }
+{
+    let b = plans::bound_of(plan, q);
+    if b.deadline <= b.bound {
+        return 0;
+    }
+    (b.deadline - b.bound) / ((b.deadline + (p - 1)) / p)
+}
+
+// Is core x open, and does every whole piece there keep its bound with task i added whole?
+fn takes_whole(plan: Plan, closed: [bool; 16], i: usize, x: usize) -> bool
+    requires { ⌜ (plan .placed ≤ 96) × (x < 16) × Ready plan i ⌝ }
+    ensures { λ r. ⌜ r ≡ takesWhole (draft plan closed) i x ⌝ }
+{
+    if closed[x] {
+        return false;
+    }
+    let z = Piece {
+        task: TaskNo(i as u8),
+        core: CoreNo(x as u8),
+        kind: Kind::Whole,
+        cost: plan.tasks[i].cost,
+    };
+    all_keep(put(z, plan), x)
+}
+
+// The lowest core that takes task i whole, or the number of cores.
+fn lowest_whole(plan: Plan, closed: [bool; 16], i: usize) -> usize
+    requires { ⌜ (plan .placed ≤ 96) × Ready plan i ⌝ }
+    ensures { λ r. ⌜ r ≡ first (plan .cores) (takesWhole (draft plan closed) i) ⌝ }
+{
+    let m = plan.cores;
+    let mut x = 0;
+    while x < m {
+        if takes_whole(plan, closed, i, x) {
+            return x;
+        }
+        x += 1;
+    }
+    m
+}
+
+// The plan with a share of task i on core x.
+fn give(plan: Plan, i: usize, x: usize, size: u32) -> Plan
+    requires { ⌜ (plan .placed < 128) × (i < 64) × (x < 16) ⌝ }
+    ensures { λ r. ⌜ r ≡ whole.put (sharePiece i x size) plan ⌝ }
+{
+    put(
+        Piece {
+            task: TaskNo(i as u8),
+            core: CoreNo(x as u8),
+            kind: Kind::Share,
+            cost: size,
+        },
+        plan,
+    )
+}
+
+fn lower(a: u32, b: u32) -> u32
+    ensures { λ r. ⌜ r ≡ min a b ⌝ }
+{
+    if a < b { a } else { b }
+}
+
+// Task i shared out over the open cores in rising order.
+fn share_out(plan: Plan, closed: [bool; 16], i: usize) -> Shared
+    requires { ⌜ (plan .placed ≤ 80) × Ready plan i ⌝ }
+    ensures { λ r. ⌜ found (r .placed) (draft (r .plan) (r .closed)) ≡ shareFrom (draft plan closed) i (taskOf plan i .cost) 0 (plan .cores) ⌝ }
+{
+    let m = plan.cores;
+    let p = plan.tasks[i].period;
+    let mut need = plan.tasks[i].cost;
+    let mut w = plan;
+    let mut shut = closed;
+    let mut placed = false;
+    'cores: for x in 0..m {
+        if shut[x] {
+            continue 'cores;
+        }
+        let n = w.placed;
+        let mut most: u32 = 1000000;
+        for q in 0..n {
+            let z = w.pieces[q];
+            if z.core.index() != x {
+                continue;
+            }
+            let allowed = allowance(w, p, q);
+            if allowed == 0 {
+                continue 'cores;
+            }
+            most = lower(most, allowed);
+        }
+        if need < most {
+            w = give(w, i, x, need);
+            placed = true;
+            break 'cores;
+        }
+        w = give(w, i, x, most);
+        shut[x] = true;
+        if most == need {
+            placed = true;
+            break 'cores;
+        }
+        need -= most;
+    }
+    Shared {
+        placed,
+        plan: w,
+        closed: shut,
+    }
 }

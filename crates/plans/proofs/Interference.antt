@@ -16,6 +16,11 @@ cases-meet e p F fits =
     let m : F * (p - e + e) ≡ F * p = ap (λ (x : ℕ). F * x) (sub-add-cancel fits) in
     omega arith
 
+-- a length of at least 1 begins at least one period
+pub some-period : (p L : ℕ) → 0 < p → 0 < L → 0 < periods p L
+unfolding periods
+some-period p L pos h = le-div-iff-mul-le pos .1 (omega arith)
+
 module _ (e p : ℕ) (pos : 0 < p) (fits : e ≤ p) where
   -- the document's two cases, with the quotient f at hand
   two-cases : (f r : ℕ) → r < p → (b : Bool) → leb (f * p + e) (f * p + r) ≡ b → cond b ((f + 1) * e) (f * p + r - f * (p - e)) ≡ f * e + min e r

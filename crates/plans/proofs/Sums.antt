@@ -10,7 +10,7 @@ use Rattle.tasks.proofs.Below.{sum-turn, sum-most}
 use Rattle.tasks.specs.Below.{sum}
 use Rattle.tasks.specs.declared.Task.{Task}
 use Rattle.plans.proofs.Interference.{within-length}
-use Rattle.plans.specs.Bound.{load}
+use Rattle.plans.specs.Bound.{localDeadline, load}
 use Rattle.plans.specs.Interference.{interference}
 use Rattle.plans.specs.Leaves.{Moderate}
 use Rattle.plans.specs.Pieces.{taskOf, pieceOf, costs}
@@ -53,3 +53,7 @@ module _ (p : Plan) (M : Moderate p) where
   pub load-small : (b : Piece) (L j : ℕ) → L ≤ 1000000 → j ≤ p .placed → load (taskOf p) (pieceOf p) j b L ≤ j * 1000000
   unfolding load
   load-small b L j h k = sum-most j 1000000 _ (λ i l. counted (above (taskOf p) (pieceOf p i) b) (le-trans (within-length _ _ (M .positive i (omega arith)) (M .fits i (omega arith)) L) h))
+
+  pub local-small : (q : ℕ) → q < p .placed → localDeadline (taskOf p) (pieceOf p) q ≤ 1000000
+  unfolding localDeadline
+  local-small q h = omega (arith, M .short q h)

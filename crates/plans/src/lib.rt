@@ -206,7 +206,8 @@ pub fn piece_at(plan: Plan, j: usize) -> Piece
     }
 }
 
-fn is_share(k: Kind) -> bool
+// Is it a share?
+pub fn is_share(k: Kind) -> bool
     ensures { λ r. ⌜ r ≡ isShare k ⌝ }
 {
     match k {

@@ -1,0 +1,28 @@
+use native.Mathlib.Omega.{arith}
+use mathlib.Core.Path.{refl}
+use Rattle.layout.specs.Whole.{put}
+use borrow.Author.Needs.{needs}
+use Rattle.layout.proofs.put.Statement.{statement}
+use Rattle.layout.proofs.put.Tie as tie
+use Rattle.layout.proofs.put.Reads as reads
+use Rattle.layout.proofs.put.Lts as lts
+
+-- src/lib.rt:40:5
+mul-z : tie.Need-mul-z
+mul-z c = search needs
+
+-- src/lib.rt:40:5
+element-set-from-z : tie.Need-element-set-from-z
+element-set-from-z c = search needs
+
+-- src/lib.rt:41:19
+add-next : tie.Need-add-next
+add-next c = search needs
+
+-- src/lib.rt:34:1
+returns : tie.Need-returns
+unfolding put
+returns c = refl
+
+pub put-spec : {M : Type 1} → statement M
+put-spec = tie.close (tie.spec mul-z element-set-from-z add-next returns)

@@ -1,0 +1,22 @@
+-- What the searches for a place ask of a plan that is being laid out, when it is task i's turn.
+use mathlib.Core.Bool.{Bool, true, false}
+use mathlib.Core.Option.{Option, none, some}
+use Prim.Native.Nat.{ℕ, _≤_, _<_}
+use Rattle.plans.specs.Leaves.{Moderate}
+use Rattle.plans.specs.Pieces.{taskOf}
+use Rattle.plans.specs.declared.Plan.{Plan}
+use Rattle.layout.specs.declared.Draft.{Draft}
+
+pub record Ready (w : Plan) (i : ℕ) : Type 0 where
+  pub moderate : Moderate w
+  pub known : i < 64
+  pub some : 0 < taskOf w i .cost
+  pub fits : taskOf w i .cost ≤ taskOf w i .period
+  pub short : taskOf w i .deadline ≤ 1000000
+  pub most : taskOf w i .period ≤ 1000000
+  pub cores : w .cores ≤ 16
+
+-- a draft, if the search found a place
+abbrev pub found : Bool → Draft → Option Draft
+found true d = some d
+found false d = none
