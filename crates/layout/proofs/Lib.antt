@@ -1,3 +1,14 @@
+pub mod More
+pub mod Put
 pub mod Limits
-pub mod Putting
+pub mod Laid
+pub mod Drafts
+pub mod Shares
 pub mod Sharing
+pub mod Wholes
+pub mod Keeps
+pub mod Reached
+pub mod Allowed
+pub mod Putting
+pub mod Searching
+pub mod Placing

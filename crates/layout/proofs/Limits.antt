@@ -1,55 +1,33 @@
--- Laws of what a piece allows and of a core's limit.
-use mathlib.Core.Path.{_≡_, refl, sym, ap, _∙_}
+-- A core's limit is within what each of its pieces allows, and below 1,000,000 wherever there is a piece.
+use mathlib.Core.Path.{_≡_, refl}
 use mathlib.Core.Bool.{Bool, true, false, cond}
-use Prim.Native.Nat.{ℕ, zero, suc, _+_, _-_, _/_, _≤_, _<_, min}
-use native.Mathlib.Nat.{zero-div, add-zero, add-suc, le-refl, le-trans}
-use native.Mathlib.Numerals.{add-one}
+use Prim.Native.Nat.{ℕ, zero, suc, _≤_, _<_, min}
+use native.Mathlib.Decide.{ℕ-discrete}
+use native.Mathlib.Nat.{le-refl}
 use native.Mathlib.Omega.{arith}
 use lib.Dec.{eqb}
-use borrow.Author.Tests.{eq-eqb, ne-eqb}
-use Rattle.plans.specs.Bound.{localDeadline, bound}
-use Rattle.plans.specs.Interference.{periods}
-use Rattle.plans.specs.Pieces.{taskOf, pieceOf}
+use borrow.Author.Tests.{eqb-false}
+use Rattle.plans.specs.Pieces.{pieceOf}
 use Rattle.plans.specs.declared.Plan.{Plan}
 use Rattle.layout.specs.Limit.{allowance, limitOf}
 
--- a piece without a margin allows nothing
-pub no-margin : (w : Plan) (p q : ℕ) → localDeadline (taskOf w) (pieceOf w) q ≤ bound (taskOf w) (pieceOf w) (w .placed) q → allowance w p q ≡ 0
-unfolding allowance
-no-margin w p q h =
-    let e : localDeadline (taskOf w) (pieceOf w) q - bound (taskOf w) (pieceOf w) (w .placed) q ≡ 0 = omega arith in
-    rw e (zero-div _)
+pub limit-le : (w : Plan) (p x n q : ℕ) → q < n → pieceOf w q .core .0 ≡ x → limitOf w p x n ≤ allowance w p q
+unfolding limitOf
+limit-le w p x zero q h e = absurd (omega arith)
+limit-le w p x (suc n) q h e = go _ refl (ℕ-discrete q n) (λ l. limit-le w p x n q l e)
+  where
+    go : (b : Bool) → eqb (pieceOf w n .core .0) x ≡ b → Dec (q ≡ n) → (q < n → limitOf w p x n ≤ allowance w p q)
+        → cond b (min (limitOf w p x n) (allowance w p n)) (limitOf w p x n) ≤ allowance w p q
+    go true u (yes k) ih = rw k (omega arith)
+    go true u (no k) ih = omega (arith, ih (omega arith))
+    go false u (yes k) ih = absurd (eqb-false _ _ u (rw k at e))
+    go false u (no k) ih = ih (omega arith)
 
-module _ (w : Plan) (p x : ℕ) where
-  pub limit-start : limitOf w p x 0 ≡ 1000000
-  unfolding limitOf
-  limit-start = refl
-
-  -- the next piece is on another core
-  pub limit-other : (q : ℕ) → (pieceOf w q .core .0 ≡ x → ⊥) → limitOf w p x (q + 1) ≡ limitOf w p x q
-  unfolding limitOf
-  limit-other q h = rw (add-one, limitOf, ne-eqb (pieceOf w q .core .0) x h)
-
-  -- the next piece is on the core
-  pub limit-here : (q : ℕ) → pieceOf w q .core .0 ≡ x → limitOf w p x (q + 1) ≡ min (limitOf w p x q) (allowance w p q)
-  unfolding limitOf
-  limit-here q h = rw (add-one, limitOf, eq-eqb (pieceOf w q .core .0) x h)
-
-  -- each piece lowers the limit or leaves it
-  limit-step : (q : ℕ) → limitOf w p x (suc q) ≤ limitOf w p x q
-  unfolding limitOf
-  limit-step q = go (eqb (pieceOf w q .core .0) x)
-    where
-      go : (b : Bool) → cond b (min (limitOf w p x q) (allowance w p q)) (limitOf w p x q) ≤ limitOf w p x q
-      go true = omega arith
-      go false = omega arith
-
-  pub limit-falls : (q k : ℕ) → limitOf w p x (q + k) ≤ limitOf w p x q
-  limit-falls q zero = rw add-zero (le-refl _)
-  limit-falls q (suc k) = rw (add-suc q k) (le-trans (limit-step (q + k)) (limit-falls q k))
-
-  -- a piece on the core that allows nothing makes the limit 0
-  pub limit-nothing : (q n : ℕ) → q < n → pieceOf w q .core .0 ≡ x → allowance w p q ≡ 0 → limitOf w p x n ≡ 0
-  limit-nothing q n l h e =
-      let m : q + 1 + (n - (q + 1)) ≡ n = omega arith in
-      omega (arith, limit-here q h, rw m at (limit-falls (q + 1) (n - (q + 1))))
+pub limit-most : (w : Plan) (p x n : ℕ) → limitOf w p x n ≤ 1000000
+unfolding limitOf
+limit-most w p x zero = le-refl _
+limit-most w p x (suc n) = go (eqb (pieceOf w n .core .0) x) (limit-most w p x n)
+  where
+    go : (b : Bool) → limitOf w p x n ≤ 1000000 → cond b (min (limitOf w p x n) (allowance w p n)) (limitOf w p x n) ≤ 1000000
+    go true h = omega arith
+    go false h = h

@@ -1,112 +1,71 @@
--- The shared search from core to core: what is kept on the way, and what each way out of a core gives.
-use mathlib.Core.Path.{_≡_, refl, sym, ap, _∙_}
+-- Shared: what each turn over the cores does, and that a task which finds its place this way leaves a draft with the next task to lay out.
+use mathlib.Core.Path.{_≡_, refl, subst}
 use mathlib.Core.Bool.{Bool, true, false, _||_, cond}
-use mathlib.Core.List.{List}
-use mathlib.Core.Logic.{_⊎_, inl, inr}
 use mathlib.Core.Option.{Option, none, some}
 use Prim.Native.Nat.{ℕ, zero, suc, _+_, _-_, _≤_, _<_}
+use native.Mathlib.Nat.{le-refl}
 use native.Mathlib.Omega.{arith}
 use lib.Dec.{ltb, eqb}
-use lib.ListN.{length, set, length-set}
-use borrow.Author.Tests.{eq-eqb, ne-eqb, lt-ltb, le-ltb}
-use Rattle.tasks.proofs.Bools.{right-one}
+use borrow.Author.Tests.{eqb-true, eqb-false, ltb-true, ltb-false}
+use Rattle.tasks.proofs.Bools.{neither}
 use Rattle.plans.specs.Pieces.{taskOf}
-use Rattle.plans.specs.declared.Plan.{Plan}
-use Rattle.layout.proofs.Putting.{put-ready}
-use Rattle.layout.specs.Asked.{Ready}
-use Rattle.layout.specs.Limit.{limitOf}
-use Rattle.layout.specs.Shared.{sharePiece, giveShare, close, shareFrom}
-use Rattle.layout.specs.Whole.{put, draft, isClosed}
+use Rattle.layout.specs.Limit.{limitOf, limit}
+use Rattle.layout.specs.Shared.{giveShare, close, shareFrom}
+use Rattle.layout.specs.Whole.{put, isClosed}
 use Rattle.layout.specs.declared.Draft.{Draft}
+use Rattle.layout.proofs.Drafts.{Drafted, Ready}
+use Rattle.layout.proofs.Laid.{laid-skip}
+use Rattle.layout.proofs.Shares.{part-drafted, fit-ready, fill-ready}
 
--- at core x of m, with w, shut and need come from `plan` and `closed`, what is left to do is what the whole search does
-pub record Sharing (plan : Plan) (closed : List Bool) (i m p need : ℕ) (w : Plan) (shut : List Bool) (x : ℕ) : Type 0 where
-  pub within : x ≤ m
-  pub board : m ≤ 16
-  pub some : 1 ≤ need
-  pub least : need ≤ taskOf w i .cost
-  pub period : p ≡ taskOf w i .period
-  pub few : w .placed ≤ 80 + x
-  pub ready : Ready w i
-  pub pieces : length (w .pieces) ≡ 128
-  pub cores : length shut ≡ 16
-  pub same : shareFrom (draft plan closed) i (taskOf plan i .cost) 0 m ≡ shareFrom (draft w shut) i need x (m - x)
+pub some-is : {A : Type 0} {u v : A} → some u ≡ some v → u ≡ v
+some-is e = cc
 
-pub begun : (plan : Plan) (closed : List Bool) (i : ℕ) → plan .placed ≤ 80 → Ready plan i → length (plan .pieces) ≡ 128 → length closed ≡ 16 →
-    Sharing plan closed i (plan .cores) (taskOf plan i .period) (taskOf plan i .cost) plan closed 0
-begun plan closed i few r l k = record {
-  within = omega arith;
-  board = r .cores;
-  some = r .some;
-  least = omega arith;
-  period = refl;
-  few = omega arith;
-  ready = r;
-  pieces = l;
-  cores = k;
-  same = ap (shareFrom (draft plan closed) i (taskOf plan i .cost) 0) (omega arith);
-}
+pub none-some : {A B : Type 0} {v : A} → _≡_ {A = Option A} none (some v) → B
+none-some e = let z : _≡_ {A = ℕ} 0 1 = cc in absurd (omega arith)
 
-module _ {plan : Plan} {closed : List Bool} {i m p need : ℕ} {w : Plan} {shut : List Bool} {x : ℕ} (s : Sharing plan closed i m p need w shut x) where
-  -- the cores have run out
-  pub run-out : m ≤ x → shareFrom (draft plan closed) i (taskOf plan i .cost) 0 m ≡ none
-  unfolding shareFrom
-  run-out h = s .same ∙ (let e : m - x ≡ 0 = omega arith in rw e)
+-- what a turn at core x does
+module _ (d : Draft) (i need x f : ℕ) where
+  pub most : ℕ
+  most = limit (d .plan) (taskOf (d .plan) i .period) x
 
-  module _ (here : x < m) where
-    -- what is done at core x, by its limit
-    at-core : shareFrom (draft w shut) i need x (m - x) ≡
-        cond (isClosed shut x || eqb (limitOf w p x (w .placed)) 0) (shareFrom (draft w shut) i need (x + 1) (m - (x + 1)))
-        (cond (ltb (limitOf w p x (w .placed)) need) (shareFrom (close (giveShare (draft w shut) i x (limitOf w p x (w .placed))) x) i (need - limitOf w p x (w .placed)) (x + 1) (m - (x + 1)))
-        (cond (eqb (limitOf w p x (w .placed)) need) (some (close (giveShare (draft w shut) i x need) x)) (some (giveShare (draft w shut) i x need))))
-    unfolding shareFrom
-    at-core = let e : m - x ≡ suc (m - (x + 1)) = omega arith in rw (e, s .period)
+  pub data Turn : Type 0 where
+    skip : shareFrom d i need x (suc f) ≡ shareFrom d i need (x + 1) f → Turn
+    part : isClosed (d .closed) x ≡ false → 1 ≤ most → most < need → shareFrom d i need x (suc f) ≡ shareFrom (close (giveShare d i x most) x) i (need - most) (x + 1) f → Turn
+    fill : isClosed (d .closed) x ≡ false → 1 ≤ most → most ≡ need → shareFrom d i need x (suc f) ≡ some (close (giveShare d i x need) x) → Turn
+    fit : isClosed (d .closed) x ≡ false → need < most → shareFrom d i need x (suc f) ≡ some (giveShare d i x need) → Turn
 
-    -- a core that is closed, or whose limit is 0, is skipped
-    pub skip : (isClosed shut x ≡ true) ⊎ (limitOf w p x (w .placed) ≡ 0) → Sharing plan closed i m p need w shut (x + 1)
-    skip h = record {
-      within = omega arith;
-      board = s .board;
-      some = s .some;
-      least = s .least;
-      period = s .period;
-      few = omega (arith, s .few);
-      ready = s .ready;
-      pieces = s .pieces;
-      cores = s .cores;
-      same = s .same ∙ at-core ∙ rw (shutting h);
-    }
-      where
-        shutting : (isClosed shut x ≡ true) ⊎ (limitOf w p x (w .placed) ≡ 0) → isClosed shut x || eqb (limitOf w p x (w .placed)) 0 ≡ true
-        shutting (inl e) = rw e
-        shutting (inr e) = right-one (isClosed shut x) (eq-eqb _ _ e)
+  pub turn : Turn
+  unfolding shareFrom most
+  turn = go _ _ _ refl refl refl
+    where
+      go : (a b c : Bool) → isClosed (d .closed) x || eqb most 0 ≡ a → ltb most need ≡ b → eqb most need ≡ c → Turn
+      go true b c p q r = skip (rw p)
+      go false true c p q r =
+          let n : (isClosed (d .closed) x ≡ false) × (eqb most 0 ≡ false) = neither p in
+          let k : (most ≡ 0 → ⊥) = eqb-false most 0 (n .1) in
+          part (n .0) (omega arith) (ltb-true _ _ q) (rw (p, q))
+      go false false true p q r =
+          let n : (isClosed (d .closed) x ≡ false) × (eqb most 0 ≡ false) = neither p in
+          let k : (most ≡ 0 → ⊥) = eqb-false most 0 (n .1) in
+          fill (n .0) (omega arith) (eqb-true _ _ r) (rw (p, q, r))
+      go false false false p q r =
+          let n : (isClosed (d .closed) x ≡ false) × (eqb most 0 ≡ false) = neither p in
+          let k : (most ≡ need → ⊥) = eqb-false most need r in
+          fit (n .0) (omega (arith, ltb-false most need q)) (rw (p, q, r))
 
-    module _ (free : isClosed shut x ≡ false) {most : ℕ} (limited : most ≡ limitOf w p x (w .placed)) (positive : 1 ≤ most) where
-      taken : isClosed shut x || eqb (limitOf w p x (w .placed)) 0 ≡ false
-      taken = rw (free, ne-eqb (limitOf w p x (w .placed)) 0 (λ e. omega arith))
+pub drafted-skip : (i need x : ℕ) (d : Draft) → Drafted i need x d → Drafted i need (x + 1) d
+drafted-skip i need x d D = record { good = D .good; long = D .long; wide = D .wide; clean = D .clean; laid = laid-skip _ _ _ _ _ _ i need x (D .laid) }
 
-      -- the limit is below need: a share of that size, the core is closed, and need falls by it
-      pub part : most < need → Sharing plan closed i m p (need - most) (put (sharePiece i x most) w) (set shut x true) (x + 1)
-      unfolding put giveShare close
-      part h = record {
-        within = omega arith;
-        board = s .board;
-        some = omega arith;
-        least = omega (arith, s .least);
-        period = s .period;
-        few = omega (arith, s .few);
-        ready = put-ready (sharePiece i x most) w i (s .pieces) (omega (arith, s .few, s .board)) (s .ready) refl (omega (arith, s .least));
-        pieces = length-set (w .pieces) (w .placed) _ ∙ s .pieces;
-        cores = length-set shut x true ∙ s .cores;
-        same = s .same ∙ at-core ∙ rw (taken, ← limited, lt-ltb most need h);
-      }
+pub share-ready : (i f x need : ℕ) (d v : Draft) → Drafted i need x d → i < d .plan .count → 1 ≤ need → x + f ≤ d .plan .cores → shareFrom d i need x f ≡ some v → Ready (suc i) v
+unfolding shareFrom close giveShare put most
+share-ready i zero x need d v D known positive room e = none-some e
+share-ready i (suc f) x need d v D known positive room e = go (turn d i need x f) (share-ready i f (x + 1))
+  where
+    here : x < d .plan .cores
+    here = omega arith
 
-      -- the limit equals need: the task gets need, the core is closed, the task is placed
-      pub fill : most ≡ need → shareFrom (draft plan closed) i (taskOf plan i .cost) 0 m ≡ some (draft (put (sharePiece i x most) w) (set shut x true))
-      unfolding giveShare close
-      fill h = s .same ∙ at-core ∙ rw (taken, ← limited, le-ltb most need (omega arith), eq-eqb most need h, h)
-
-      -- the limit exceeds need: the task gets need, the core stays open, the task is placed
-      pub fit : need < most → shareFrom (draft plan closed) i (taskOf plan i .cost) 0 m ≡ some (draft (put (sharePiece i x need) w) shut)
-      unfolding giveShare
-      fit h = s .same ∙ at-core ∙ rw (taken, ← limited, le-ltb most need (omega arith), ne-eqb most need (λ e. omega arith))
+    go : Turn d i need x f → ((need : ℕ) (d v : Draft) → Drafted i need (x + 1) d → i < d .plan .count → 1 ≤ need → x + 1 + f ≤ d .plan .cores → shareFrom d i need (x + 1) f ≡ some v → Ready (suc i) v) → Ready (suc i) v
+    go (skip t) ih = ih need d v (drafted-skip i need x d D) known positive (omega arith) (rw t at e)
+    go (part free positive less t) ih = ih (need - most d i need x f) _ v (part-drafted i need x d D known here free (most d i need x f) positive (omega arith) (le-refl _)) known (omega arith) (omega arith) (rw t at e)
+    go (fill free l same t) ih = subst (Ready (suc i)) (some-is (rw t at e)) (fill-ready i need x d D known here free need positive (le-refl _) (omega arith) refl)
+    go (fit free more t) ih = subst (Ready (suc i)) (some-is (rw t at e)) (fit-ready i need x d D known here free need positive (le-refl _) (omega arith) refl)

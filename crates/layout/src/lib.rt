@@ -4,7 +4,11 @@ ghost use Prim.Native.Nat.{ℕ, _≤_, _<_, min};
 ghost use Rattle.tasks.specs.Below.{all, first};
 ghost use Rattle.plans.specs.Leaves.{Moderate};
 ghost use Rattle.plans.specs.Pieces.{taskOf};
+ghost use Rattle.layout.specs.Layout as layouts;
+ghost use Rattle.layout.specs.Layout.{noPlan, start, layFirst, outcome};
 ghost use Rattle.layout.specs.Limit as limits;
+ghost use Rattle.tasks.specs.Tables.{checkedTable};
+ghost use Rattle.tasks.specs.declared.Answer.the-variants.{Accepted};
 ghost use Rattle.layout.specs.Shared.{sharePiece, shareFrom};
 ghost use Rattle.layout.specs.Whole as whole;
 ghost use Rattle.layout.specs.Asked.{Ready, found};
@@ -14,6 +18,9 @@ use plans::Piece;
 use plans::Plan;
 use tasks::Answer;
 use tasks::CoreNo;
+use tasks::Refusal;
+use tasks::Table;
+use tasks::Task;
 use tasks::TaskNo;
 
 // A plan while it is laid out: its pieces so far, and which cores are closed.
@@ -36,7 +43,7 @@ struct Shared {
 }
 
 // The plan with one piece more.
-fn put(z: Piece, plan: Plan) -> Plan
+fn with_piece(z: Piece, plan: Plan) -> Plan
     requires { ⌜ plan .placed < 128 ⌝ }
     ensures { λ r. ⌜ r ≡ whole.put z plan ⌝ }
 {
@@ -106,7 +113,7 @@ fn takes_whole(plan: Plan, closed: [bool; 16], i: usize, x: usize) -> bool
         kind: Kind::Whole,
         cost: plan.tasks[i].cost,
     };
-    all_keep(put(z, plan), x)
+    all_keep(with_piece(z, plan), x)
 }
 
 // The lowest core that takes task i whole, or the number of cores.
@@ -130,7 +137,7 @@ fn give(plan: Plan, i: usize, x: usize, size: u32) -> Plan
     requires { ⌜ (plan .placed < 128) × (i < 64) × (x < 16) ⌝ }
     ensures { λ r. ⌜ r ≡ whole.put (sharePiece i x size) plan ⌝ }
 {
-    put(
+    with_piece(
         Piece {
             task: TaskNo(i as u8),
             core: CoreNo(x as u8),
@@ -192,5 +199,111 @@ fn share_out(plan: Plan, closed: [bool; 16], i: usize) -> Shared
         placed,
         plan: w,
         closed: shut,
+    }
+}
+
+// Task i placed: whole on the lowest core that takes it, otherwise shared out.
+fn place(plan: Plan, closed: [bool; 16], i: usize) -> Shared
+    requires { ⌜ (plan .placed ≤ 80) × Ready plan i ⌝ }
+    ensures { λ r. ⌜ found (r .placed) (draft (r .plan) (r .closed)) ≡ layouts.place (draft plan closed) i ⌝ }
+{
+    let x = lowest_whole(plan, closed, i);
+    if x < plan.cores {
+        let z = Piece {
+            task: TaskNo(i as u8),
+            core: CoreNo(x as u8),
+            kind: Kind::Whole,
+            cost: plan.tasks[i].cost,
+        };
+        Shared {
+            placed: true,
+            plan: with_piece(z, plan),
+            closed,
+        }
+    } else {
+        share_out(plan, closed, i)
+    }
+}
+
+// A plan of zeros.
+fn no_plan() -> Plan
+    ensures { λ r. ⌜ r ≡ noPlan ⌝ }
+{
+    Plan {
+        cores: 0,
+        count: 0,
+        tasks: [Task {
+            cost: 0,
+            deadline: 0,
+            period: 0,
+        }; 64],
+        placed: 0,
+        pieces: [Piece {
+            task: TaskNo(0),
+            core: CoreNo(0),
+            kind: Kind::Whole,
+            cost: 0,
+        }; 128],
+    }
+}
+
+// The table's tasks with no piece yet; entries past the count are 0.
+fn begin(table: Table) -> Plan
+    requires { ⌜ table .count ≤ 64 ⌝ }
+    ensures { λ r. ⌜ r ≡ start table .plan ⌝ }
+{
+    let n = table.count;
+    let mut plan = no_plan();
+    plan.cores = table.cores;
+    plan.count = n;
+    let mut i = 0;
+    while i < n {
+        plan.tasks[i] = table.tasks[i];
+        i += 1;
+    }
+    plan
+}
+
+fn refused(r: Refusal) -> Planned
+    ensures { λ p. ⌜ p ≡ layouts.refused r ⌝ }
+{
+    Planned {
+        answer: Answer::Refused(r),
+        plan: no_plan(),
+    }
+}
+
+// The tasks of a good table placed in table order.
+fn lay_out(table: Table) -> Planned
+    requires { ⌜ checkedTable table ≡ Accepted ⌝ }
+    ensures { λ r. ⌜ r ≡ outcome (layFirst (start table) (table .count)) ⌝ }
+{
+    let n = table.count;
+    let mut plan = begin(table);
+    let mut closed = [false; 16];
+    let mut i = 0;
+    while i < n {
+        let next = place(plan, closed, i);
+        if !next.placed {
+            return refused(Refusal::NotPlaced(TaskNo(i as u8)));
+        }
+        plan = next.plan;
+        closed = next.closed;
+        i += 1;
+    }
+    Planned {
+        answer: Answer::Accepted,
+        plan,
+    }
+}
+
+// The plan of a table, or why there is none. Any record at all may be given.
+pub fn plan_table(table: Table) -> Planned
+    ensures { λ r. ⌜ r ≡ layouts.planned table ⌝ }
+{
+    let answer = tasks::check_table(table);
+    match answer {
+        Answer::Refused(r) => refused(r),
+        Answer::Accepted => lay_out(table),
     }
 }

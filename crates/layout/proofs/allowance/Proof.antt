@@ -8,7 +8,7 @@ use Rattle.plans.specs.Bound.{localDeadline, bound}
 use Rattle.plans.specs.Interference.{periods}
 use Rattle.plans.specs.Pieces.{taskOf, pieceOf}
 use Rattle.layout.specs.Limit.{allowance}
-use Rattle.layout.proofs.Limits.{no-margin}
+use Rattle.layout.proofs.Allowed.{no-margin}
 use borrow.Author.Needs.{needs}
 use Rattle.layout.proofs.allowance.Statement.{statement}
 use Rattle.layout.proofs.allowance.Tie as tie

@@ -7,8 +7,8 @@ use mathlib.Core.Logic.{inl, inr}
 use lib.ListN.{length, length-map}
 use Rattle.plans.specs.Pieces.{taskOf, pieceOf}
 use Rattle.layout.specs.Limit.{limitOf}
-use Rattle.layout.proofs.Limits.{limit-other, limit-here, limit-nothing, limit-start}
-use Rattle.layout.proofs.Sharing.{Sharing, begun, run-out, skip, part, fill, fit}
+use Rattle.layout.proofs.Allowed.{limit-other, limit-here, limit-nothing, limit-start}
+use Rattle.layout.proofs.Searching.{Sharing, begun, run-out, skip, part, fill, fit}
 use Rattle.layout.proofs.share_out.Statement.{statement}
 use Rattle.layout.proofs.share_out.Tie as tie
 use Rattle.layout.proofs.share_out.Reads as reads

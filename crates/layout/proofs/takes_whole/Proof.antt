@@ -4,14 +4,14 @@ use mathlib.Core.Path.{_≡_, refl, sym, _∙_}
 use native.Mathlib.Nat.{le-refl}
 use lib.ListN.{length, length-map}
 use Rattle.layout.specs.Whole.{takesWhole}
-use Rattle.layout.proofs.Putting.{put-moderate}
+use Rattle.layout.proofs.Putting.{stays-moderate}
 use borrow.Author.Needs.{needs}
 use Rattle.layout.proofs.takes_whole.Statement.{statement}
 use Rattle.layout.proofs.takes_whole.Tie as tie
 use Rattle.layout.proofs.takes_whole.Reads as reads
 use Rattle.layout.proofs.takes_whole.Lts as lts
 use Rattle.layout.proofs.all_keep.Reads as all-keep-reads
-use Rattle.layout.proofs.put.Reads as put-reads
+use Rattle.layout.proofs.with_piece.Reads as with-piece-reads
 
 -- src/lib.rt:96:8
 array-read-if1 : tie.Need-array-read-if1
@@ -39,19 +39,19 @@ element-copy-out-t20 : tie.Need-element-copy-out-t20
 element-copy-out-t20 c = search needs
 
 -- src/lib.rt:105:14
-put-requires : tie.Need-put-requires
-put-requires c κs = search needs
+with-piece-requires : tie.Need-with-piece-requires
+with-piece-requires c κs = search needs
 
 -- src/lib.rt:105:5
 all-keep-requires : tie.Need-all-keep-requires
 all-keep-requires c κs = let s = c .before .before in
     let l : length (s .args .t1 .pieces) ≡ 128 = simp length-map at (s .good .0 .1 .1 .1 .1 .1 .1 .0 .1 .0 .1) in
-    rw (c .put .ensures) (put-moderate _ (s .args .t1) (s .args .i) l (omega arith) (s .pre .2) refl (le-refl _))
+    rw (c .with-piece .ensures) (stays-moderate _ (s .args .t1) (s .args .i) l (omega arith) (s .pre .2) refl (le-refl _))
 
 -- src/lib.rt:92:1
 returns-2 : tie.Need-returns-2
 unfolding takesWhole
-returns-2 c = c .all-keep .ensures ∙ rw (c .before .put .ensures, c .before .before .if1 .left)
+returns-2 c = c .all-keep .ensures ∙ rw (c .before .with-piece .ensures, c .before .before .if1 .left)
 
 pub takes-whole-spec : {M : Type 1} → statement M
 takes-whole-spec =
@@ -63,6 +63,6 @@ takes-whole-spec =
     cast-t14
     mul-t17
     element-copy-out-t20
-    put-requires
+    with-piece-requires
     all-keep-requires
     returns-2)

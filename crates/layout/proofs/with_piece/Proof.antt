@@ -2,10 +2,10 @@ use native.Mathlib.Omega.{arith}
 use mathlib.Core.Path.{refl}
 use Rattle.layout.specs.Whole.{put}
 use borrow.Author.Needs.{needs}
-use Rattle.layout.proofs.put.Statement.{statement}
-use Rattle.layout.proofs.put.Tie as tie
-use Rattle.layout.proofs.put.Reads as reads
-use Rattle.layout.proofs.put.Lts as lts
+use Rattle.layout.proofs.with_piece.Statement.{statement}
+use Rattle.layout.proofs.with_piece.Tie as tie
+use Rattle.layout.proofs.with_piece.Reads as reads
+use Rattle.layout.proofs.with_piece.Lts as lts
 
 -- src/lib.rt:40:5
 mul-z : tie.Need-mul-z
@@ -24,5 +24,5 @@ returns : tie.Need-returns
 unfolding put
 returns c = refl
 
-pub put-spec : {M : Type 1} → statement M
-put-spec = tie.close (tie.spec mul-z element-set-from-z add-next returns)
+pub with-piece-spec : {M : Type 1} → statement M
+with-piece-spec = tie.close (tie.spec mul-z element-set-from-z add-next returns)
