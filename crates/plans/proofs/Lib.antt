@@ -2,3 +2,4 @@ pub mod Interference
 pub mod Rank
 pub mod Sums
 pub mod Shaped
+pub mod InShape

@@ -36,14 +36,17 @@ module _ (a b : Piece) where
   unfolding follows
   same-follows h = rw (ne-eqb (b .task .0) (a .task .0 + 1) (λ e. omega arith), eq-eqb (a .task .0) (b .task .0) h)
 
-  -- b is the next task's or the same task's
-  pub follows-task : follows a b ≡ true → (b .task .0 ≡ a .task .0 + 1) ⊎ (a .task .0 ≡ b .task .0)
-  unfolding follows
-  follows-task h = go (one-of {a = eqb (b .task .0) (a .task .0 + 1)} h)
-    where
-      go : (eqb (b .task .0) (a .task .0 + 1) ≡ true) ⊎ (sameTask a b && isShare (a .kind) && isShare (b .kind) && ltb (a .core .0) (b .core .0) ≡ true) → (b .task .0 ≡ a .task .0 + 1) ⊎ (a .task .0 ≡ b .task .0)
-      go (inl e) = inl (eqb-true _ _ e)
-      go (inr e) = inr (eqb-true _ _ (both {a = sameTask a b} (both {a = sameTask a b && isShare (a .kind)} (both {a = sameTask a b && isShare (a .kind) && isShare (b .kind)} e .0) .0) .0))
+-- what stands right after a piece
+pub follows-says : (a b : Piece) → follows a b ≡ true → (b .task .0 ≡ a .task .0 + 1) ⊎ ((b .task .0 ≡ a .task .0) × (a .core .0 < b .core .0))
+unfolding follows
+follows-says a b h = go (one-of {a = eqb (b .task .0) (a .task .0 + 1)} h)
+  where
+    go : (eqb (b .task .0) (a .task .0 + 1) ≡ true) ⊎ (sameTask a b && isShare (a .kind) && isShare (b .kind) && ltb (a .core .0) (b .core .0) ≡ true) → (b .task .0 ≡ a .task .0 + 1) ⊎ ((b .task .0 ≡ a .task .0) × (a .core .0 < b .core .0))
+    go (inl q) = inl (eqb-true _ _ q)
+    go (inr q) =
+        let u : (sameTask a b && isShare (a .kind) && isShare (b .kind) ≡ true) × (ltb (a .core .0) (b .core .0) ≡ true) = both {a = sameTask a b && isShare (a .kind) && isShare (b .kind)} q in
+        let v : (sameTask a b && isShare (a .kind) ≡ true) × (isShare (b .kind) ≡ true) = both {a = sameTask a b && isShare (a .kind)} (u .0) in
+        inr (sym (eqb-true _ _ (both {a = sameTask a b} (v .0) .0)), ltb-true _ _ (u .1))
 
 pub order-next : (pc : ℕ → Piece) (j : ℕ) → 0 < j → inOrder pc j ≡ follows (pc (j - 1)) (pc j)
 unfolding inOrder
@@ -60,16 +63,16 @@ last-before pc n j h = rw (lt-ltb (suc j) n h, add-one)
 
 -- the first k pieces are in order
 module _ (pc : ℕ → Piece) (k : ℕ) (ordered : (j : ℕ) → j < k → inOrder pc j ≡ true) where
-  step-up : (j : ℕ) → suc j < k → (pc (suc j) .task .0 ≡ pc j .task .0 + 1) ⊎ (pc j .task .0 ≡ pc (suc j) .task .0)
+  step-up : (j : ℕ) → suc j < k → (pc (suc j) .task .0 ≡ pc j .task .0 + 1) ⊎ ((pc (suc j) .task .0 ≡ pc j .task .0) × (pc j .core .0 < pc (suc j) .core .0))
   unfolding inOrder
-  step-up j h = follows-task (pc j) (pc (suc j)) (ordered (suc j) h)
+  step-up j h = follows-says (pc j) (pc (suc j)) (ordered (suc j) h)
 
   -- task numbers rise
   pub tasks-rise : (i j : ℕ) → i ≤ j → j < k → pc i .task .0 ≤ pc j .task .0
   tasks-rise i zero h l = let e : i ≡ 0 = omega arith in rw e (le-refl _)
   tasks-rise i (suc j) h l = go (ℕ-discrete i (suc j)) (step-up j l) (tasks-rise i j)
     where
-      go : Dec (i ≡ suc j) → (pc (suc j) .task .0 ≡ pc j .task .0 + 1) ⊎ (pc j .task .0 ≡ pc (suc j) .task .0) → (i ≤ j → j < k → pc i .task .0 ≤ pc j .task .0) → pc i .task .0 ≤ pc (suc j) .task .0
+      go : Dec (i ≡ suc j) → (pc (suc j) .task .0 ≡ pc j .task .0 + 1) ⊎ ((pc (suc j) .task .0 ≡ pc j .task .0) × (pc j .core .0 < pc (suc j) .core .0)) → (i ≤ j → j < k → pc i .task .0 ≤ pc j .task .0) → pc i .task .0 ≤ pc (suc j) .task .0
       go (yes e) s ih = rw e (le-refl _)
       go (no e) (inl s) ih = omega (arith, ih (omega arith) (omega arith))
       go (no e) (inr s) ih = omega (arith, ih (omega arith) (omega arith))
@@ -150,14 +153,14 @@ carried pc j ordered here = ap (λ (x : ℕ). x + pc j .cost) (go j ordered here
   where
     go : (j : ℕ) → ((k : ℕ) → k < j → inOrder pc k ≡ true) → inOrder pc j ≡ true → cond (goesOn pc j) (soFar pc j) 0 ≡ costs pc (pc j .task .0) j
     go zero o h = sym (costs-none pc _)
-    go (suc k) o h = by (follows-task (pc k) (pc (suc k)) h)
+    go (suc k) o h = by (follows-says (pc k) (pc (suc k)) h)
       where
         e : suc k - 1 ≡ k
         e = omega arith
 
-        by : (pc (suc k) .task .0 ≡ pc k .task .0 + 1) ⊎ (pc k .task .0 ≡ pc (suc k) .task .0) → cond (goesOn pc (suc k)) (soFar pc (suc k)) 0 ≡ costs pc (pc (suc k) .task .0) (suc k)
+        by : (pc (suc k) .task .0 ≡ pc k .task .0 + 1) ⊎ ((pc (suc k) .task .0 ≡ pc k .task .0) × (pc k .core .0 < pc (suc k) .core .0)) → cond (goesOn pc (suc k)) (soFar pc (suc k)) 0 ≡ costs pc (pc (suc k) .task .0) (suc k)
         by (inl n) = rw (lt-ltb 0 (suc k) (omega arith), e, ne-eqb (pc k .task .0) (pc (suc k) .task .0) (λ q. omega arith)) (sym (costs-later pc (suc k) o (pc (suc k) .task .0) k (omega arith) (omega arith)))
-        by (inr s) = rw (lt-ltb 0 (suc k) (omega arith), e, eq-eqb (pc k .task .0) (pc (suc k) .task .0) s) (ap (λ (i : ℕ). costs pc i (suc k)) s)
+        by (inr s) = rw (lt-ltb 0 (suc k) (omega arith), e, eq-eqb (pc k .task .0) (pc (suc k) .task .0) (sym (s .0))) (ap (λ (i : ℕ). costs pc i (suc k)) (sym (s .0)))
 
 -- the answers of a plan's check, by what its tasks and its shape get
 module _ (p : Plan) where

@@ -4,6 +4,7 @@ ghost use mathlib.Core.Bool.{true, _&&_, cond};
 ghost use Prim.Native.Nat.{ℕ, suc, _+_, _-_, _≤_, _<_};
 ghost use lib.Dec.{eqb, ltb};
 ghost use Rattle.plans.specs.Bound as meaning;
+ghost use Rattle.plans.specs.Asking.{boundAsked};
 ghost use Rattle.plans.specs.Bound.{localDeadline};
 ghost use Rattle.plans.specs.Pieces.{noPiece, taskOf, pieceOf, costs};
 ghost use Rattle.plans.specs.Shape as shaped;
@@ -131,6 +132,12 @@ fn less(a: u32, b: u32) -> u32
     ensures { λ r. ⌜ r ≡ a - b ⌝ }
 {
     if b < a { a - b } else { 0 }
+}
+
+// The bound asked from outside: a piece's bound and margin, or why there is none.
+pub enum Bounding {
+    Known { bound: u32, margin: Margin },
+    Refused(Refusal),
 }
 
 // A piece's local deadline and its bound.
@@ -367,6 +374,26 @@ pub fn check_plan(plan: Plan) -> Answer
                 Answer::Accepted
             } else {
                 Answer::Refused(Refusal::NoPlanShape)
+            }
+        }
+    }
+}
+
+// The bound and margin of piece q. Any plan record and any place at all may be given: 4, 6, 5 or 8, and 8 for a piece past the list.
+pub fn ask_bound(plan: Plan, q: usize) -> Bounding
+    ensures { λ r. ⌜ r ≡ boundAsked plan q ⌝ }
+{
+    let answer = check_plan(plan);
+    match answer {
+        Answer::Refused(r) => Bounding::Refused(r),
+        Answer::Accepted => {
+            if plan.placed <= q {
+                return Bounding::Refused(Refusal::NoPlanShape);
+            }
+            let b = bound_of(plan, q);
+            Bounding::Known {
+                bound: b.bound,
+                margin: margin_of(b.deadline, b.bound),
             }
         }
     }
