@@ -1,6 +1,6 @@
 -- Reading: the bytes of a file are taken one after another, each field is judged as its bytes come in, and the first bad field decides.
 -- A file that comes in parts is read as the whole is: `read` goes on from any reader.
-use mathlib.Core.Bool.{Bool, true, false, not, _&&_, _||_, cond}
+use mathlib.Core.Bool.{Bool, true, false, not, _&&_, cond}
 use mathlib.Core.List.{List, [], _∷_}
 use Prim.Native.Nat.{ℕ, _+_, _-_}
 use lib.Dec.{leb, ltb, eqb}
@@ -46,9 +46,9 @@ lengthFor g = cond (eqb g 1) 1 (cond (eqb g 2) 12 7)
 -- a core count only as the first field; a task after no piece; a piece only in plan files
 unfoldable pub tagFits : Field → Bool
 tagFits f =
-    (eqb (tag f) 1 && eqb (f .place) 0)
-    || ((eqb (tag f) 2 && leb (f .place) (f .end))
-    || (eqb (tag f) 3 && f .pieces))
+    cond (eqb (tag f) 1) (eqb (f .place) 0)
+    (cond (eqb (tag f) 2) (leb (f .place) (f .end))
+    (cond (eqb (tag f) 3) (f .pieces) false))
 
 -- the task of a field with tag 2
 abbrev pub taskIn : Field → Task
@@ -64,8 +64,8 @@ pieceIn f = record { task = taskNo (getD (f .bytes) 3 0); core = coreNo (getD (f
 -- values: 4 or 5
 unfoldable pub values : Field → Verdict
 values f =
-    cond (eqb (tag f) 1 && not (coresFit (getD (f .bytes) 3 0))) (Bad (CoresAt (placeOf f)))
-    (cond (eqb (tag f) 2 && not (valuesFit (taskIn f))) (Bad (ValuesAt (placeOf f)))
+    cond (eqb (tag f) 1) (cond (coresFit (getD (f .bytes) 3 0)) Good (Bad (CoresAt (placeOf f))))
+    (cond (eqb (tag f) 2) (cond (valuesFit (taskIn f)) Good (Bad (ValuesAt (placeOf f))))
     Good)
 
 -- within a field, n tasks having been read: header whole, tag (2), 65th task (6), length (3), body whole, values
@@ -102,7 +102,7 @@ pieceTaken f placed = ltb (getD (f .bytes) 5 0) 2 && ltb placed 128
 unfoldable pub nextField : Field → ℕ → Field
 nextField f placed =
     let p : ℕ = further (f .place) (3 + lengthFor (tag f)) in
-    cond (eqb (tag f) 3) (fieldAt (f .pieces) p (f .end) (f .misshapen || not (pieceTaken f placed))) (fieldAt (f .pieces) p p (f .misshapen))
+    cond (eqb (tag f) 3) (fieldAt (f .pieces) p (f .end) (cond (pieceTaken f placed) (f .misshapen) true)) (fieldAt (f .pieces) p p (f .misshapen))
 
 abbrev pub withCores : Plan → ℕ → Plan
 withCores p m = record { cores = m; count = p .count; tasks = p .tasks; placed = p .placed; pieces = p .pieces }

@@ -1,10 +1,21 @@
 // The reader and the writer of table and plan files, and the table in force.
 ghost use mathlib.Core.Path.{_≡_};
+ghost use mathlib.Core.Bool.{_&&_};
+ghost use lib.Dec.{leb, eqb};
+ghost use Prim.Native.Nat.{_+_, _≤_, _<_};
+ghost use Rattle.files.specs.Fields.{number2, number4};
+ghost use Rattle.files.specs.Reading.{tag, lengthFor, fieldAt, tagFits, taskIn, pieceIn, values, verdict, hold, further, pieceTaken, nextField, added, refusedField, endedAfter};
+ghost use Rattle.tasks.specs.Tables.{coresFit};
+use plans::Kind;
+use plans::Piece;
 use plans::Plan;
 use tasks::Answer;
+use tasks::CoreNo;
 use tasks::Place;
 use tasks::Refusal;
 use tasks::Table;
+use tasks::Task;
+use tasks::TaskNo;
 
 // The field that is being read, and what the fields before it leave for it to be judged by.
 pub struct Field {
@@ -58,9 +69,280 @@ pub enum InForce {
     Neither(Refusal),
 }
 
-// A place in a file.
-fn place(p: usize) -> Place
-    ensures { λ r. ⌜ r .0 ≡ p ⌝ }
+// A byte as a wider number.
+fn wide(x: u8) -> u32
+    ensures { λ r. ⌜ (r ≡ x) × (r < 256) ⌝ }
 {
-    Place(p)
+    x as u32
+}
+
+// The number of two bytes from `i` on.
+fn number2_at(bytes: [u8; 15], i: usize) -> u32
+    requires { ⌜ i + 2 ≤ 15 ⌝ }
+    ensures { λ r. ⌜ (r ≡ number2 bytes i) × (r < 65536) ⌝ }
+{
+    wide(bytes[i]) * 256 + wide(bytes[i + 1])
+}
+
+// The number of four bytes from `i` on.
+fn number4_at(bytes: [u8; 15], i: usize) -> u32
+    requires { ⌜ i + 4 ≤ 15 ⌝ }
+    ensures { λ r. ⌜ r ≡ number4 bytes i ⌝ }
+{
+    number2_at(bytes, i) * 65536 + number2_at(bytes, i + 2)
+}
+
+// The length that belongs to a tag.
+fn length_for(tag: u8) -> usize
+    ensures { λ r. ⌜ (r ≡ lengthFor tag) × (r < 13) ⌝ }
+{
+    if tag == 1 {
+        return 1;
+    }
+    if tag == 2 {
+        return 12;
+    }
+    7
+}
+
+// Cores m: 1 to 16.
+fn cores_fit(m: u8) -> bool
+    ensures { λ r. ⌜ r ≡ coresFit m ⌝ }
+{
+    if m < 1 {
+        return false;
+    }
+    m <= 16
+}
+
+impl Field {
+    // A field at a place, of which nothing was read yet.
+    fn at(pieces: bool, place: usize, end: usize, misshapen: bool) -> Field
+        ensures { λ r. ⌜ r ≡ fieldAt pieces place end misshapen ⌝ }
+    {
+        Field {
+            pieces,
+            answer: Answer::Accepted,
+            place,
+            end,
+            misshapen,
+            count: 0,
+            bytes: [0u8; 15],
+        }
+    }
+
+    // Does the tag stand where it may?
+    fn tag_fits(self) -> bool
+        ensures { λ r. ⌜ r ≡ tagFits self ⌝ }
+    {
+        let tag = self.bytes[0];
+        if tag == 1 {
+            return self.place == 0;
+        }
+        if tag == 2 {
+            return self.place <= self.end;
+        }
+        if tag == 3 {
+            return self.pieces;
+        }
+        false
+    }
+
+    // The task of a field with tag 2.
+    fn task(self) -> Task
+        ensures { λ r. ⌜ r ≡ taskIn self ⌝ }
+    {
+        let bytes = self.bytes;
+        Task {
+            cost: number4_at(bytes, 3),
+            deadline: number4_at(bytes, 7),
+            period: number4_at(bytes, 11),
+        }
+    }
+
+    // The piece of a field with tag 3.
+    fn piece(self) -> Piece
+        ensures { λ r. ⌜ r ≡ pieceIn self ⌝ }
+    {
+        let bytes = self.bytes;
+        let cost = number4_at(bytes, 6);
+        let task = TaskNo(bytes[3]);
+        let core = CoreNo(bytes[4]);
+        if bytes[5] == 1 {
+            return Piece {
+                task,
+                core,
+                kind: Kind::Share,
+                cost,
+            };
+        }
+        Piece {
+            task,
+            core,
+            kind: Kind::Whole,
+            cost,
+        }
+    }
+
+    // One more byte of the field.
+    fn hold(self, byte: u8) -> Field
+        ensures { λ r. ⌜ r ≡ hold self byte ⌝ }
+    {
+        let n = self.count;
+        if 15 <= n {
+            return self;
+        }
+        let mut f = self;
+        f.bytes[n] = byte;
+        f.count = n + 1;
+        f
+    }
+
+    // Values: 4 or 5.
+    fn values(self) -> Verdict
+        ensures { λ r. ⌜ r ≡ values self ⌝ }
+    {
+        let tag = self.bytes[0];
+        if tag == 1 {
+            if cores_fit(self.bytes[3]) {
+                return Verdict::Good;
+            }
+            return Verdict::Bad(Refusal::CoresAt(Place(self.place)));
+        }
+        if tag == 2 {
+            if tasks::values_fit(self.task()) {
+                return Verdict::Good;
+            }
+            return Verdict::Bad(Refusal::ValuesAt(Place(self.place)));
+        }
+        Verdict::Good
+    }
+
+    // Is this a task after `tasks` tasks, and so many are as many as may be?
+    fn is_task_past(self, tasks: usize) -> bool
+        ensures { λ r. ⌜ r ≡ (eqb (tag self) 2 && leb 64 tasks) ⌝ }
+    {
+        if self.bytes[0] == 2 {
+            return 64 <= tasks;
+        }
+        false
+    }
+
+    // Header whole, tag (2), 65th task (6), length (3), body whole, values, after so many tasks.
+    fn verdict(self, tasks: usize) -> Verdict
+        ensures { λ r. ⌜ r ≡ verdict self tasks ⌝ }
+    {
+        if self.count < 3 {
+            return Verdict::Waits;
+        }
+        if !self.tag_fits() {
+            return Verdict::Bad(Refusal::WrongTag(Place(self.place)));
+        }
+        if self.is_task_past(tasks) {
+            return Verdict::Bad(Refusal::TasksAt(Place(self.place)));
+        }
+        let bytes = self.bytes;
+        let length = length_for(bytes[0]);
+        if number2_at(bytes, 1) as usize != length {
+            return Verdict::Bad(Refusal::WrongLength(Place(self.place)));
+        }
+        if self.count < 3 + length {
+            return Verdict::Waits;
+        }
+        self.values()
+    }
+
+    // Is a piece's kind 0 or 1, and the piece no 129th?
+    fn piece_taken(self, placed: usize) -> bool
+        ensures { λ r. ⌜ r ≡ pieceTaken self placed ⌝ }
+    {
+        if self.bytes[5] < 2 {
+            return placed < 128;
+        }
+        false
+    }
+
+    // The next field after this good one.
+    fn next(self, placed: usize) -> Field
+        ensures { λ r. ⌜ r ≡ nextField self placed ⌝ }
+    {
+        let tag = self.bytes[0];
+        let p = further(self.place, 3 + length_for(tag));
+        if tag == 3 {
+            if self.piece_taken(placed) {
+                return Field::at(self.pieces, p, self.end, self.misshapen);
+            }
+            return Field::at(self.pieces, p, self.end, true);
+        }
+        Field::at(self.pieces, p, p, self.misshapen)
+    }
+
+    // What is read so far, with this good field added.
+    fn added(self, plan: Plan) -> Plan
+        requires { ⌜ (tag self ≡ 2 → plan .count < 64) ⌝ }
+        ensures { λ r. ⌜ r ≡ added self plan ⌝ }
+    {
+        let mut p = plan;
+        let tag = self.bytes[0];
+        if tag == 1 {
+            p.cores = self.bytes[3] as usize;
+            return p;
+        }
+        if tag == 2 {
+            let n = plan.count;
+            p.tasks[n] = self.task();
+            p.count = n + 1;
+            return p;
+        }
+        let n = plan.placed;
+        if !self.piece_taken(n) {
+            return p;
+        }
+        p.pieces[n] = self.piece();
+        p.placed = n + 1;
+        p
+    }
+
+    // The field, refused.
+    fn refused(self, refusal: Refusal) -> Field
+        ensures { λ r. ⌜ r ≡ refusedField self refusal ⌝ }
+    {
+        let bytes = self.bytes;
+        Field {
+            pieces: self.pieces,
+            answer: Answer::Refused(refusal),
+            place: self.place,
+            end: self.end,
+            misshapen: self.misshapen,
+            count: self.count,
+            bytes,
+        }
+    }
+
+    // What the end of the file after so many tasks is answered with: 1 or 6.
+    fn ended(self, tasks: usize) -> Answer
+        ensures { λ r. ⌜ r ≡ endedAfter self tasks ⌝ }
+    {
+        let answer = self.answer;
+        if let Answer::Refused(refusal) = answer {
+            return Answer::Refused(refusal);
+        }
+        if 0 < self.count {
+            return Answer::Refused(Refusal::CutShort(Place(self.place)));
+        }
+        if tasks == 0 {
+            return Answer::Refused(Refusal::TasksAt(Place(self.end)));
+        }
+        Answer::Accepted
+    }
+}
+
+// The place `n` bytes further on.
+fn further(p: usize, n: usize) -> usize
+    ensures { λ r. ⌜ r ≡ further p n ⌝ }
+{
+    if p <= 18446744073709551615 - n {
+        return p + n;
+    }
+    18446744073709551615
 }

@@ -1,0 +1,16 @@
+-- What a field that was judged good has.
+use mathlib.Core.Path.{_≡_}
+use mathlib.Core.Bool.{Bool, true, false, not, _&&_, cond}
+use Prim.Native.Nat.{ℕ, _<_, _≤_}
+use native.Mathlib.Omega.{arith}
+use lib.Dec.{ltb, leb, eqb}
+use lib.ListN.{getD}
+use borrow.Author.Tests.{ltb-true}
+use Rattle.tasks.proofs.Bools.{both}
+use Rattle.files.specs.Reading.{pieceTaken}
+use Rattle.files.specs.declared.Field.{Field}
+
+-- a piece that is taken is no 129th
+pub piece-room : (f : Field) (n : ℕ) → pieceTaken f n ≡ true → n < 128
+unfolding pieceTaken
+piece-room f n h = ltb-true n 128 (both {a = ltb (getD (f .bytes) 5 0) 2} h .1)

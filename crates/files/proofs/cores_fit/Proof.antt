@@ -1,0 +1,15 @@
+use borrow.Author.Needs.{needs}
+use borrow.Author.Tests.{eq-eqb, ne-eqb, le-leb, lt-leb, lt-ltb, le-ltb}
+use Rattle.files.proofs.cores_fit.Statement.{statement}
+use Rattle.files.proofs.cores_fit.Tie as tie
+use Rattle.files.proofs.cores_fit.Reads as reads
+use Rattle.files.proofs.cores_fit.Lts as lts
+
+returns : tie.Need-returns
+returns c = simp (lt-leb _ _ (c .if1 .taken))
+
+returns-2 : tie.Need-returns-2
+returns-2 c = simp (le-leb _ _ (c .if1 .left))
+
+pub cores-fit-spec : {M : Type 1} → statement M
+cores-fit-spec = tie.close (tie.spec returns returns-2)
