@@ -1,2 +1,3 @@
 pub mod Examples
 pub mod Fields
+pub mod Reading

@@ -13,8 +13,8 @@ use Rattle.tasks.specs.declared.Refusal.{Refusal}
 use Rattle.tasks.specs.declared.Refusal.the-variants.{CutShort, WrongTag, WrongLength, CoresAt, ValuesAt, TasksAt, NoPlanShape}
 use Rattle.tasks.specs.declared.Table.{Table}
 use Rattle.tasks.specs.declared.Task.{Task}
-use Rattle.plans.specs.Pieces.{noPiece, taskOf, pieceOf}
-use Rattle.plans.specs.Shape.{shape}
+use Rattle.plans.specs.Pieces.{noPiece}
+use Rattle.plans.specs.Shape.{checkedPlan}
 use Rattle.plans.specs.declared.Kind.{Kind}
 use Rattle.plans.specs.declared.Kind.the-variants.{Whole, Share}
 use Rattle.plans.specs.declared.Piece.{Piece}
@@ -158,11 +158,9 @@ endedAfter f n =
     (cond (ltb 0 (f .count)) (Refused (CutShort (placeOf f)))
     (cond (eqb n 0) (Refused (TasksAt (record { 0 = f .end }))) Accepted))
 
--- 8 comes last
-unfoldable pub planEnded : Reader → Answer
-planEnded r =
-    andThen (endedAfter (r .field) (r .plan .count))
-    (cond (not (r .field .misshapen) && shape (r .plan .cores) (r .plan .count) (taskOf (r .plan)) (pieceOf (r .plan)) (r .plan .placed)) Accepted (Refused NoPlanShape))
+-- 8 comes last: what was read is judged as a record, and of good fields only the shape is left to refuse
+unfoldable pub planEnded : Field → Plan → Answer
+planEnded f p = andThen (endedAfter f (p .count)) (cond (f .misshapen) (Refused NoPlanShape) (checkedPlan p))
 
 -- on a refusal the record is all zeros
 abbrev pub tableAnswered : Answer → Plan → ReadTable
@@ -177,7 +175,7 @@ unfoldable pub tableClosed : Reader → ReadTable
 tableClosed r = tableAnswered (endedAfter (r .field) (r .plan .count)) (r .plan)
 
 unfoldable pub planClosed : Reader → ReadPlan
-planClosed r = planAnswered (planEnded r) (r .plan)
+planClosed r = planAnswered (planEnded (r .field) (r .plan)) (r .plan)
 
 -- a table file, a plan file
 unfoldable pub tableRead : List ℕ → ReadTable

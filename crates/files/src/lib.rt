@@ -1,11 +1,12 @@
 // The reader and the writer of table and plan files, and the table in force.
 ghost use mathlib.Core.Path.{_≡_};
-ghost use mathlib.Core.Bool.{_&&_};
+ghost use mathlib.Core.Bool.{true, false, _&&_};
 ghost use lib.Dec.{leb, eqb};
+ghost use lib.ListN.{replicate};
 ghost use Prim.Native.Nat.{_+_, _≤_, _<_};
 ghost use Rattle.files.specs.Fields.{number2, number4};
-ghost use Rattle.files.specs.Reading.{tag, lengthFor, fieldAt, tagFits, taskIn, pieceIn, values, verdict, hold, further, pieceTaken, nextField, added, refusedField, endedAfter};
-ghost use Rattle.tasks.specs.Tables.{coresFit};
+ghost use Rattle.files.specs.Reading.{tag, lengthFor, fieldAt, tagFits, taskIn, pieceIn, values, verdict, hold, further, pieceTaken, nextField, added, refusedField, endedAfter, emptyPlan, begun, read, tableClosed, tableRead};
+ghost use Rattle.tasks.specs.Tables.{coresFit, noTask};
 use plans::Kind;
 use plans::Piece;
 use plans::Plan;
@@ -335,6 +336,128 @@ impl Field {
         }
         Answer::Accepted
     }
+}
+
+// A plan of all zeros, but for the core count.
+fn empty_plan(cores: usize) -> Plan
+    ensures { λ r. ⌜ r ≡ emptyPlan cores ⌝ }
+{
+    let none = Piece {
+        task: TaskNo(0),
+        core: CoreNo(0),
+        kind: Kind::Whole,
+        cost: 0,
+    };
+    Plan {
+        cores,
+        count: 0,
+        tasks: no_tasks(),
+        placed: 0,
+        pieces: [none; 128],
+    }
+}
+
+// The tasks of an empty record.
+fn no_tasks() -> [Task; 64]
+    ensures { λ r. ⌜ r ≡ replicate 64 noTask ⌝ }
+{
+    [Task {
+        cost: 0,
+        deadline: 0,
+        period: 0,
+    }; 64]
+}
+
+// A reader that has read nothing yet, of a table file or, with pieces, of a plan file.
+fn begun(pieces: bool) -> Reader
+    ensures { λ r. ⌜ r ≡ begun pieces ⌝ }
+{
+    Reader {
+        field: Field::at(pieces, 0, 0, false),
+        plan: empty_plan(4),
+    }
+}
+
+// Begins to read a table file.
+pub fn start_table() -> Reader
+    ensures { λ r. ⌜ r ≡ begun false ⌝ }
+{
+    begun(false)
+}
+
+// Begins to read a plan file.
+pub fn start_plan() -> Reader
+    ensures { λ r. ⌜ r ≡ begun true ⌝ }
+{
+    begun(true)
+}
+
+// Reads on: the next part of a file, of any length.
+pub fn feed(reader: Reader, part: &[u8]) -> Reader
+    ensures { λ r. ⌜ r ≡ read reader (now (part .entry)) ⌝ }
+{
+    let mut f = reader.field;
+    let mut plan = reader.plan;
+    let answer = f.answer;
+    if let Answer::Refused(_) = answer {
+        return reader;
+    }
+    let mut i = 0;
+    while i < part.len() {
+        f = f.hold(part[i]);
+        i += 1;
+        match f.verdict(plan.count) {
+            Verdict::Waits => {}
+            Verdict::Bad(refusal) => {
+                return Reader {
+                    field: f.refused(refusal),
+                    plan,
+                };
+            }
+            Verdict::Good => {
+                let placed = plan.placed;
+                plan = f.added(plan);
+                f = f.next(placed);
+            }
+        }
+    }
+    Reader { field: f, plan }
+}
+
+// Ends the reading of a table file.
+pub fn close_table(reader: Reader) -> ReadTable
+    ensures { λ r. ⌜ r ≡ tableClosed reader ⌝ }
+{
+    let f = reader.field;
+    let plan = reader.plan;
+    match f.ended(plan.count) {
+        Answer::Accepted => {
+            let tasks = plan.tasks;
+            ReadTable {
+                answer: Answer::Accepted,
+                table: Table {
+                    cores: plan.cores,
+                    count: plan.count,
+                    tasks,
+                },
+            }
+        }
+        Answer::Refused(refusal) => ReadTable {
+            answer: Answer::Refused(refusal),
+            table: Table {
+                cores: 0,
+                count: 0,
+                tasks: no_tasks(),
+            },
+        },
+    }
+}
+
+// Reads a table file: any bytes at all.
+pub fn read_table(bytes: &[u8]) -> ReadTable
+    ensures { λ r. ⌜ r ≡ tableRead (now (bytes .entry)) ⌝ }
+{
+    close_table(feed(start_table(), bytes))
 }
 
 // The place `n` bytes further on.

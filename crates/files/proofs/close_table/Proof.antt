@@ -1,0 +1,35 @@
+use Rattle.files.specs.Reading.{tableClosed, tableAnswered}
+use mathlib.Core.Path.{_≡_, refl, sym, ap, _∙_}
+use borrow.Author.Tests.{eq-eqb, ne-eqb, le-leb, lt-leb, lt-ltb, le-ltb}
+use borrow.Author.Needs.{needs}
+use Rattle.files.proofs.close_table.Statement.{statement}
+use Rattle.files.proofs.close_table.Tie as tie
+use Rattle.files.proofs.close_table.Reads as reads
+use Rattle.files.proofs.close_table.Lts as lts
+use Rattle.files.proofs.Field.ended.Reads as ended-reads
+use Rattle.files.proofs.no_tasks.Reads as no-tasks-reads
+
+ended-requires : tie.Need-ended-requires
+ended-requires c κs = search needs
+
+enum-told : tie.Need-enum-told
+enum-told c = search needs
+
+enum-known-refusal : tie.Need-enum-known-refusal
+enum-known-refusal c = search needs
+
+no-tasks-requires : tie.Need-no-tasks-requires
+no-tasks-requires c κs = search needs
+
+returns : tie.Need-returns
+unfolding tableClosed
+returns c = simp (sym (c .before .before .before .ended .ensures) ∙ c .before .enum-told .given .1)
+
+returns-2 : tie.Need-returns-2
+unfolding tableClosed
+returns-2 c = simp (sym (c .before .before .before .before .ended .ensures) ∙ c .before .before .refusal .given .1, c .no-tasks .ensures)
+
+pub close-table-spec : {M : Type 1} → statement M
+close-table-spec =
+    tie.close
+    (tie.spec ended-requires enum-told enum-known-refusal no-tasks-requires returns returns-2)
