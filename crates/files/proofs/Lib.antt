@@ -1,3 +1,4 @@
 pub mod Examples
 pub mod Fields
 pub mod Reading
+pub mod Writing

@@ -3,7 +3,7 @@ use mathlib.Core.Bool.{cond}
 use mathlib.Core.List.{List, _++_}
 use Prim.Native.Nat.{ℕ}
 use lib.Dec.{leb}
-use lib.ListN.{length, drop}
+use lib.ListN.{length, take, drop}
 use Rattle.tasks.specs.Tables.{checkedTable}
 use Rattle.tasks.specs.declared.Answer.{Answer}
 use Rattle.tasks.specs.declared.Answer.the-variants.{Accepted, Refused}
@@ -14,6 +14,10 @@ use Rattle.plans.specs.declared.Plan.{Plan}
 use Rattle.files.specs.Fields.{tableBytes, planBytes}
 use Rattle.files.specs.declared.Written.{Written}
 use Rattle.files.specs.declared.Written.the-variants as written
+
+-- a buffer with fields in its middle, from `start` to `end`
+abbrev pub after : List ℕ → ℕ → ℕ → List ℕ → List ℕ
+after buffer start end fields = (take start buffer ++ fields) ++ drop end buffer
 
 -- for a record the order is 4, 6, 5, 8, then 13, which tells the length needed
 abbrev pub answered : Answer → List ℕ → List ℕ → Written

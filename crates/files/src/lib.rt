@@ -2,9 +2,13 @@
 ghost use mathlib.Core.Path.{_≡_};
 ghost use mathlib.Core.Bool.{true, false, _&&_};
 ghost use lib.Dec.{leb, eqb};
-ghost use lib.ListN.{replicate};
-ghost use Prim.Native.Nat.{_+_, _≤_, _<_};
-ghost use Rattle.files.specs.Fields.{number2, number4};
+ghost use lib.ListN.{length, getD, drop, replicate};
+ghost use lib.Seq.{sets};
+ghost use mathlib.Core.List.{_++_};
+ghost use Rattle.plans.specs.Pieces.{noPiece};
+ghost use Prim.Native.Nat.{_+_, _*_, _≤_, _<_};
+ghost use Rattle.files.specs.Fields.{number2, number4, bytes4, kindByte, coreField, taskField, pieceField, row, tasksBytes};
+ghost use Rattle.files.specs.Writing.{after};
 ghost use Rattle.files.specs.Reading.{tag, lengthFor, fieldAt, tagFits, taskIn, pieceIn, values, verdict, hold, further, pieceTaken, nextField, added, refusedField, endedAfter, emptyPlan, begun, read, tableClosed, tableRead};
 ghost use Rattle.tasks.specs.Tables.{coresFit, noTask};
 use plans::Kind;
@@ -468,4 +472,103 @@ fn further(p: usize, n: usize) -> usize
         return p + n;
     }
     18446744073709551615
+}
+
+// Writes the four bytes of a number from `at` on.
+fn put4(out: &mut [u8], at: usize, x: u32)
+    requires { ⌜ at + 4 ≤ length (now out) ⌝ }
+    ensures { λ r. ⌜ now (out .exit) ≡ sets (now (out .entry)) at (bytes4 x) ⌝ }
+{
+    out[at] = (x / 16777216 % 256) as u8;
+    out[at + 1] = (x / 65536 % 256) as u8;
+    out[at + 2] = (x / 256 % 256) as u8;
+    out[at + 3] = (x % 256) as u8;
+}
+
+// Writes the core count into the part that starts at its field.
+fn put_cores(out: &mut [u8], cores: u8)
+    requires { ⌜ 4 ≤ length (now out) ⌝ }
+    ensures { λ r. ⌜ now (out .exit) ≡ sets (now (out .entry)) 0 (coreField cores) ⌝ }
+{
+    out[0] = 1;
+    out[1] = 0;
+    out[2] = 1;
+    out[3] = cores;
+}
+
+// Writes a task into the part that starts at its field.
+fn put_task(out: &mut [u8], task: Task)
+    requires { ⌜ 15 ≤ length (now out) ⌝ }
+    ensures { λ r. ⌜ now (out .exit) ≡ sets (now (out .entry)) 0 (taskField task) ⌝ }
+{
+    out[0] = 2;
+    out[1] = 0;
+    out[2] = 12;
+    put4(out, 3, task.cost);
+    put4(out, 7, task.deadline);
+    put4(out, 11, task.period);
+}
+
+// The byte of a kind.
+fn kind_byte(kind: Kind) -> u8
+    ensures { λ r. ⌜ r ≡ kindByte kind ⌝ }
+{
+    match kind {
+        Kind::Whole => 0,
+        Kind::Share => 1,
+    }
+}
+
+// Writes a piece into the part that starts at its field.
+fn put_piece(out: &mut [u8], piece: Piece)
+    requires { ⌜ 10 ≤ length (now out) ⌝ }
+    ensures { λ r. ⌜ now (out .exit) ≡ sets (now (out .entry)) 0 (pieceField piece) ⌝ }
+{
+    out[0] = 3;
+    out[1] = 0;
+    out[2] = 7;
+    out[3] = piece.task.0;
+    out[4] = piece.core.0;
+    let kind = piece.kind;
+    out[5] = kind_byte(kind);
+    put4(out, 6, piece.cost);
+}
+
+// Writes the tasks from `start` on, one field after another, and reports the length up to their end.
+fn put_tasks(out: &mut [u8], start: usize, count: usize, tasks: [Task; 64]) -> usize
+    requires { ⌜ (count ≤ 64) × (start ≤ 4) × (start + 15 * count ≤ length (now out)) ⌝ }
+    ensures { λ r. ⌜ (r ≡ start + 15 * count) × (now (out .exit) ≡ after (now (out .entry)) start r (row count (λ i. taskField (getD tasks i noTask)))) ⌝ }
+{
+    let mut at = start;
+    let mut i = 0;
+    while i < count {
+        put_task(&mut out[at..], tasks[i]);
+        at += 15;
+        i += 1;
+    }
+    at
+}
+
+// Writes the pieces from `start` on, one field after another, and reports the length up to their end.
+fn put_pieces(out: &mut [u8], start: usize, placed: usize, pieces: [Piece; 128]) -> usize
+    requires { ⌜ (placed ≤ 128) × (start ≤ 1000) × (start + 10 * placed ≤ length (now out)) ⌝ }
+    ensures { λ r. ⌜ (r ≡ start + 10 * placed) × (now (out .exit) ≡ after (now (out .entry)) start r (row placed (λ j. pieceField (getD pieces j noPiece)))) ⌝ }
+{
+    let mut at = start;
+    let mut j = 0;
+    while j < placed {
+        put_piece(&mut out[at..], pieces[j]);
+        at += 10;
+        j += 1;
+    }
+    at
+}
+
+// Writes the core count and the tasks, and reports their length.
+fn put_table(out: &mut [u8], cores: usize, count: usize, tasks: [Task; 64]) -> usize
+    requires { ⌜ (cores ≤ 16) × (count ≤ 64) × (4 + 15 * count ≤ length (now out)) ⌝ }
+    ensures { λ r. ⌜ (r ≡ 4 + 15 * count) × (now (out .exit) ≡ tasksBytes cores count (λ i. getD tasks i noTask) ++ drop r (now (out .entry))) ⌝ }
+{
+    put_cores(out, cores as u8);
+    put_tasks(out, 4, count, tasks)
 }
