@@ -8,12 +8,23 @@ use native.Mathlib.Omega.{arith}
 use lib.ListN.{length, take, drop, length-append, length-drop, drop-of-length-le, take-append-drop}
 use lib.Seq.{take-at, drop-at, drop-drop, take-all, sets, sets-eq, length-take-le}
 use borrow.Rule.Slice.PartMut.{putMid}
+use borrow.Author.Tests.{le-leb, lt-leb}
+use Rattle.tasks.specs.declared.Answer.{Answer}
+use Rattle.tasks.specs.declared.Answer.the-variants.{Accepted, Refused}
+use Rattle.tasks.specs.declared.Refusal.{Refusal}
+use Rattle.tasks.specs.declared.Refusal.the-variants.{BufferShort}
 use Rattle.tasks.specs.declared.Table.{Table}
 use Rattle.tasks.specs.declared.Task.{Task}
 use Rattle.plans.specs.Pieces.{taskOf, pieceOf}
+use Rattle.plans.specs.declared.Piece.{Piece}
 use Rattle.plans.specs.declared.Plan.{Plan}
 use Rattle.files.specs.Fields.{coreField, taskField, pieceField, row, tasksBytes, tableBytes, planBytes}
-use Rattle.files.specs.Writing.{after}
+use Rattle.files.specs.Writing.{after, answered, filled}
+use Rattle.files.specs.declared.Written.the-variants as written
+
+-- lists that agree from n on agree further on
+drop-on : (k n : ℕ) (xs ys : List ℕ) (r : ℕ) → r ≡ n + k → drop n xs ≡ drop n ys → drop r xs ≡ drop r ys
+drop-on k n xs ys r q h = rw (q, ← drop-drop k n xs, ← drop-drop k n ys, h)
 
 -- one field, written into the part from `at` on
 put-part : (xs ys v : List ℕ) (at : ℕ) → at + length v ≤ length xs → ys ≡ sets (take (length xs - at) (drop at xs)) 0 v
@@ -55,7 +66,7 @@ module _ (k : ℕ) (f : ℕ → List ℕ) (each : (i : ℕ) → length (f i) ≡
       let lw : length w ≡ at = length-append (take start e) (row n f) ∙ rw (length-take-le start e (omega arith)) (omega arith) in
       let front : take at xs ≡ w = ap (take at) (r .bytes) ∙ take-at w (drop at e) at lw in
       let behind : drop at xs ≡ drop at e = ap (drop at) (r .bytes) ∙ drop-at w (drop at e) at lw in
-      let rest : drop (at + k) xs ≡ drop (at + k) e = sym (drop-drop k at xs) ∙ ap (drop k) behind ∙ drop-drop k at e in
+      let rest : drop (at + k) xs ≡ drop (at + k) e = drop-on k at xs e (at + k) refl behind in
       let all : putMid at (length xs - at) xs ys ≡ after e start (at + k) (row (n + 1) f) = put-part xs ys v at (omega arith) p ∙ rw (front, lf, rest, lv, add-one) (simp append-assoc) in
       let lo : length ((take start e ++ row (n + 1) f) ++ drop (at + k) e) ≡ length e = length-append (take start e ++ row (n + 1) f) (drop (at + k) e) ∙ omega (arith, length-append (take start e) (row (n + 1) f), row-length k (n + 1) f each, length-take-le start e (omega arith), length-drop (at + k) e, mul-add-one k n) in
       record { next = omega (arith, r .next, mul-add-one k n); bytes = all; size = ap length all ∙ lo }
@@ -67,19 +78,49 @@ unfolding tasksBytes coreField
 tasks-written e xs m n r k ts q h p =
     let split : xs ≡ coreField m ++ drop 4 e = p ∙ sets-eq (coreField m) e 0 h in
     let front : take 4 xs ≡ coreField m = ap (take 4) split in
-    let behind : drop 4 xs ≡ drop 4 e = ap (drop 4) split in
-    let rest : drop r xs ≡ drop r e = ap (λ (j : ℕ). drop j xs) q ∙ sym (drop-drop k 4 xs) ∙ ap (drop k) behind ∙ drop-drop k 4 e ∙ ap (λ (j : ℕ). drop j e) (sym q) in
-    rw (front, rest)
+    rw (front, drop-on k 4 xs e r q (ap (drop 4) split))
 
--- the length of a file
+-- the length of a field, and of a file
+pub task-field-length : (t : Task) → length (taskField t) ≡ 15
+unfolding taskField
+task-field-length t = refl
+
+pub piece-field-length : (z : Piece) → length (pieceField z) ≡ 10
+unfolding pieceField
+piece-field-length z = refl
+
 pub tasks-length : (m n : ℕ) (ts : ℕ → Task) → length (tasksBytes m n ts) ≡ 4 + 15 * n
-unfolding tasksBytes coreField taskField
-tasks-length m n ts = ap (λ (k : ℕ). 4 + k) (row-length 15 n (λ i. taskField (ts i)) (λ i. refl))
+unfolding tasksBytes coreField
+tasks-length m n ts = omega (arith, row-length 15 n (λ i. taskField (ts i)) (λ i. task-field-length (ts i)))
 
 pub table-length : (t : Table) → length (tableBytes t) ≡ 4 + 15 * t .count
 unfolding tableBytes
 table-length t = tasks-length _ _ _
 
 pub plan-length : (p : Plan) → length (planBytes p) ≡ 4 + 15 * p .count + 10 * p .placed
-unfolding planBytes pieceField
-plan-length p = length-append (tasksBytes (p .cores) (p .count) (taskOf p)) (row (p .placed) (λ j. pieceField (pieceOf p j))) ∙ rw (tasks-length, row-length 10 (p .placed) (λ j. pieceField (pieceOf p j)) (λ j. refl))
+unfolding planBytes
+plan-length p = length-append (tasksBytes (p .cores) (p .count) (taskOf p)) (row (p .placed) (λ j. pieceField (pieceOf p j))) ∙ rw (tasks-length, row-length 10 (p .placed) (λ j. pieceField (pieceOf p j)) (λ j. piece-field-length (pieceOf p j)))
+
+-- the three ways in which writing ends
+module _ (a : Answer) (file e : List ℕ) where
+  pub write-refused : (x : Refusal) → a ≡ Refused x → (written.Refused x ≡ answered a file e) × (e ≡ filled a file e)
+  write-refused x h = rw h (refl, refl)
+
+  module _ (good : a ≡ Accepted) (n : ℕ) (size : length file ≡ n) where
+    pub write-short : length e < n → (written.Refused (BufferShort n) ≡ answered a file e) × (e ≡ filled a file e)
+    write-short h = rw (good, size, lt-leb n (length e) h) (refl, refl)
+
+    pub write-done : (r : ℕ) (xs : List ℕ) → r ≡ n → n ≤ length e → xs ≡ file ++ drop r e → (written.Length r ≡ answered a file e) × (xs ≡ filled a file e)
+    write-done r xs q h k = rw (good, size, le-leb n (length e) h, k, q) (refl, refl)
+
+-- the pieces after the tasks
+pub plan-written : (p : Plan) (e xs : List ℕ) (start r k : ℕ) → r ≡ start + k → start ≡ 4 + 15 * p .count
+    → xs ≡ tasksBytes (p .cores) (p .count) (taskOf p) ++ drop start e
+    → after xs start r (row (p .placed) (λ j. pieceField (pieceOf p j))) ≡ planBytes p ++ drop r e
+unfolding planBytes
+plan-written p e xs start r k q u h =
+    let w : List ℕ = tasksBytes (p .cores) (p .count) (taskOf p) in
+    let lw : length w ≡ start = tasks-length _ _ _ ∙ sym u in
+    let front : take start xs ≡ w = ap (take start) h ∙ take-at w (drop start e) start lw in
+    let behind : drop start xs ≡ drop start e = ap (drop start) h ∙ drop-at w (drop start e) start lw in
+    rw (front, drop-on k start xs e r q behind)

@@ -7,9 +7,9 @@ ghost use lib.Seq.{sets};
 ghost use mathlib.Core.List.{_++_};
 ghost use Rattle.plans.specs.Pieces.{noPiece};
 ghost use Prim.Native.Nat.{_+_, _*_, _≤_, _<_};
-ghost use Rattle.files.specs.Fields.{number2, number4, bytes4, kindByte, coreField, taskField, pieceField, row, tasksBytes};
-ghost use Rattle.files.specs.Writing.{after};
-ghost use Rattle.files.specs.Reading.{tag, lengthFor, fieldAt, tagFits, taskIn, pieceIn, values, verdict, hold, further, pieceTaken, nextField, added, refusedField, endedAfter, emptyPlan, begun, read, tableClosed, tableRead};
+ghost use Rattle.files.specs.Fields.{number2, number4, bytes4, kindByte, coreField, taskField, pieceField, row, tasksBytes, planBytes};
+ghost use Rattle.files.specs.Writing.{after, tableWritten, tableFilled, planWritten, planFilled};
+ghost use Rattle.files.specs.Reading.{tag, lengthFor, fieldAt, tagFits, taskIn, pieceIn, values, verdict, hold, further, pieceTaken, nextField, added, refusedField, endedAfter, emptyPlan, begun, read, tableClosed, tableRead, planEnded, planClosed, planRead};
 ghost use Rattle.tasks.specs.Tables.{coresFit, noTask};
 use plans::Kind;
 use plans::Piece;
@@ -457,6 +457,46 @@ pub fn close_table(reader: Reader) -> ReadTable
     }
 }
 
+// What the end of a plan file is answered with: 1, 6 or, last, 8.
+fn plan_ended(f: Field, plan: Plan) -> Answer
+    ensures { λ r. ⌜ r ≡ planEnded f plan ⌝ }
+{
+    match f.ended(plan.count) {
+        Answer::Refused(refusal) => Answer::Refused(refusal),
+        Answer::Accepted => {
+            if f.misshapen {
+                return Answer::Refused(Refusal::NoPlanShape);
+            }
+            plans::check_plan(plan)
+        }
+    }
+}
+
+// Ends the reading of a plan file.
+pub fn close_plan(reader: Reader) -> ReadPlan
+    ensures { λ r. ⌜ r ≡ planClosed reader ⌝ }
+{
+    let f = reader.field;
+    let plan = reader.plan;
+    match plan_ended(f, plan) {
+        Answer::Accepted => ReadPlan {
+            answer: Answer::Accepted,
+            plan,
+        },
+        Answer::Refused(refusal) => ReadPlan {
+            answer: Answer::Refused(refusal),
+            plan: empty_plan(0),
+        },
+    }
+}
+
+// Reads a plan file: any bytes at all.
+pub fn read_plan(bytes: &[u8]) -> ReadPlan
+    ensures { λ r. ⌜ r ≡ planRead (now (bytes .entry)) ⌝ }
+{
+    close_plan(feed(start_plan(), bytes))
+}
+
 // Reads a table file: any bytes at all.
 pub fn read_table(bytes: &[u8]) -> ReadTable
     ensures { λ r. ⌜ r ≡ tableRead (now (bytes .entry)) ⌝ }
@@ -571,4 +611,46 @@ fn put_table(out: &mut [u8], cores: usize, count: usize, tasks: [Task; 64]) -> u
 {
     put_cores(out, cores as u8);
     put_tasks(out, 4, count, tasks)
+}
+
+// Writes a table into a lent buffer: any record and any buffer.
+pub fn write_table(table: Table, out: &mut [u8]) -> Written
+    ensures { λ r. ⌜ (r ≡ tableWritten table (now (out .entry))) × (now (out .exit) ≡ tableFilled table (now (out .entry))) ⌝ }
+{
+    let answer = tasks::check_table(table);
+    if let Answer::Refused(refusal) = answer {
+        return Written::Refused(refusal);
+    }
+    let length = 4 + 15 * table.count;
+    if out.len() < length {
+        return Written::Refused(Refusal::BufferShort(length));
+    }
+    let tasks = table.tasks;
+    Written::Length(put_table(out, table.cores, table.count, tasks))
+}
+
+// Writes the fields of a plan, and reports their length.
+fn put_plan(out: &mut [u8], plan: Plan) -> usize
+    requires { ⌜ (plan .cores ≤ 16) × (plan .count ≤ 64) × (plan .placed ≤ 128) × (4 + 15 * plan .count + 10 * plan .placed ≤ length (now out)) ⌝ }
+    ensures { λ r. ⌜ (r ≡ 4 + 15 * plan .count + 10 * plan .placed) × (now (out .exit) ≡ planBytes plan ++ drop r (now (out .entry))) ⌝ }
+{
+    let tasks = plan.tasks;
+    let pieces = plan.pieces;
+    let start = put_table(out, plan.cores, plan.count, tasks);
+    put_pieces(out, start, plan.placed, pieces)
+}
+
+// Writes a plan into a lent buffer: any record and any buffer.
+pub fn write_plan(plan: Plan, out: &mut [u8]) -> Written
+    ensures { λ r. ⌜ (r ≡ planWritten plan (now (out .entry))) × (now (out .exit) ≡ planFilled plan (now (out .entry))) ⌝ }
+{
+    let answer = plans::check_plan(plan);
+    if let Answer::Refused(refusal) = answer {
+        return Written::Refused(refusal);
+    }
+    let length = 4 + 15 * plan.count + 10 * plan.placed;
+    if out.len() < length {
+        return Written::Refused(Refusal::BufferShort(length));
+    }
+    Written::Length(put_plan(out, plan))
 }
