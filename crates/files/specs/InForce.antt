@@ -1,9 +1,9 @@
 -- Table in force: the machine's own table if it is a good table file, otherwise the shipped one if that is good.
-use mathlib.Core.Bool.{cond}
+use mathlib.Core.Bool.{cond, _&&_}
 use mathlib.Core.List.{List}
 use mathlib.Core.Path.{_≡_}
 use Prim.Native.Nat.{ℕ, _+_, _-_}
-use lib.Dec.{eqb}
+use lib.Dec.{leb, eqb}
 use lib.ListN.{length, take, drop, getD}
 use denote.Ref.{RefT, ptr, now}
 use Rattle.tasks.specs.declared.Answer.{Answer}
@@ -29,7 +29,7 @@ pub record IsPart (r s : RefT (List ℕ)) (a e : ℕ) : Type 0 where
 
 -- the place of the first task field of a good table file: after the core count, if that is there
 abbrev pub firstTask : List ℕ → ℕ
-firstTask s = cond (eqb (getD s 0 0) 1) 4 0
+firstTask s = cond (leb 4 (length s) && eqb (getD s 0 0) 1) 4 0
 
 -- r is the part that holds the slice's task fields
 abbrev pub TaskFields : RefT (List ℕ) → RefT (List ℕ) → Type 0

@@ -11,6 +11,7 @@ ghost use Rattle.files.specs.Fields.{number2, number4, bytes4, kindByte,
 ghost use Rattle.files.specs.Writing.{after, tableWritten, tableFilled, planWritten, planFilled};
 ghost use Rattle.files.specs.Reading.{tag, lengthFor, fieldAt, tagFits, taskIn, pieceIn, values, verdict, hold, further, pieceTaken, nextField, added, refusedField, endedAfter, emptyPlan, begun, read, tableClosed, tableRead, planEnded, planClosed, planRead};
 ghost use Rattle.tasks.specs.Tables.{coresFit, noTask};
+ghost use Rattle.files.specs.InForce.{inForce, TaskFields, IsInForce};
 use plans::Kind;
 use plans::Piece;
 use plans::Plan;
@@ -653,4 +654,45 @@ pub fn write_plan(plan: Plan, out: &mut [u8]) -> Written
         return Written::Refused(Refusal::BufferShort(length));
     }
     Written::Length(put_plan(out, plan))
+}
+
+// Which of the two slices is in force or, if both are bad, the refusal of the shipped one.
+pub fn which_in_force<'a>(own: &'a [u8], shipped: &'a [u8]) -> InForce
+    ensures { λ r. ⌜ r ≡ inForce (now (own .entry)) (now (shipped .entry)) ⌝ }
+{
+    let own_read = read_table(own);
+    let own_answer = own_read.answer;
+    if let Answer::Accepted = own_answer {
+        return InForce::Own;
+    }
+    let shipped_read = read_table(shipped);
+    let shipped_answer = shipped_read.answer;
+    match shipped_answer {
+        Answer::Accepted => InForce::Shipped,
+        Answer::Refused(refusal) => InForce::Neither(refusal),
+    }
+}
+
+// The part of a good table file that holds its task fields, itself and no copy.
+fn task_fields<'a>(file: &'a [u8]) -> &'a [u8]
+    ensures { λ r. ⌜ TaskFields r (file .entry) ⌝ }
+{
+    if file.len() < 4 {
+        return &file[0..];
+    }
+    if file[0] == 1 {
+        return &file[4..];
+    }
+    &file[0..]
+}
+
+// The part of the slice in force that holds the task fields, both slices lent for as long as the part.
+fn part_in_force<'r>(own: &'r [u8], shipped: &'r [u8]) -> &'r [u8]
+    ensures { λ r. ⌜ IsInForce (inForce (now (own .entry)) (now (shipped .entry))) r (own .entry) (shipped .entry) ⌝ }
+{
+    match which_in_force(own, shipped) {
+        InForce::Own => task_fields(own),
+        InForce::Shipped => task_fields(shipped),
+        InForce::Neither(_) => &shipped[0..0],
+    }
 }
