@@ -696,3 +696,10 @@ fn part_in_force<'r>(own: &'r [u8], shipped: &'r [u8]) -> &'r [u8]
         InForce::Neither(_) => &shipped[0..0],
     }
 }
+
+// The table in force: the part of the machine's own or of the shipped slice that holds the task fields, itself and no copy; empty if both are bad.
+pub fn table_in_force<'a: 'r, 'b: 'r, 'r>(own: &'a [u8], shipped: &'b [u8]) -> &'r [u8]
+    ensures { λ r. ⌜ IsInForce (inForce (now (own .entry)) (now (shipped .entry))) r (own .entry) (shipped .entry) ⌝ }
+{
+    part_in_force(own, shipped)
+}
