@@ -5,3 +5,5 @@ pub mod Numbers
 pub mod Reading
 pub mod ReadBack
 pub mod Writing
+pub mod Same
+pub mod RoundTrip
