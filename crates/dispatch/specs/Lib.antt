@@ -4,3 +4,4 @@ pub mod WellMade
 pub mod Rules
 pub mod Refusing
 pub mod Tick
+pub mod Sound

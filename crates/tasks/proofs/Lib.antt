@@ -2,3 +2,4 @@ pub mod Bools
 pub mod Below
 pub mod Padded
 pub mod Tables
+pub mod Tabulate

@@ -1,0 +1,89 @@
+use mathlib.Core.Bool.{false}
+use mathlib.Core.Path.{_≡_}
+use Prim.Native.Nat.{_-_, _≤_}
+use native.Mathlib.Omega.{arith}
+use borrow.Author.Needs.{needs}
+use Rattle.tasks.proofs.Padded.{padded-turn}
+use Rattle.tasks.proofs.Tabulate.{padded-start}
+use Rattle.tasks.specs.Below.{tabulate, padded}
+use Rattle.dispatch.specs.Jobs.{noJob, jobOf}
+use Rattle.dispatch.specs.Rules.{firstPiece, releasedJob, release, eachJob}
+use Rattle.dispatch.specs.Sets.{member}
+use Rattle.dispatch.specs.declared.Tasks.{Tasks}
+use Rattle.dispatch.proofs.Walks.{tabulated}
+use Rattle.dispatch.proofs.State.release.Statement.{statement}
+use Rattle.dispatch.proofs.State.release.Tie as tie
+
+abbrev Inv-loop : tie.InvT-loop
+Inv-loop plan self marks firsts jobs₀ i₀ jobs i = (i ≤ plan .count) × (plan .count ≤ 64) × ((rs : Tasks) → marks ≡ tabulate 256 (member rs) → firsts ≡ tabulate 256 (firstPiece plan) → jobs ≡ padded 64 i noJob (λ k. releasedJob plan rs k (jobOf self k)))
+
+abbrev μ-loop : tie.MeasureT-loop
+μ-loop plan self marks firsts jobs₀ i₀ jobs i = plan .count - i
+
+marks-requires : tie.Need-marks-requires Inv-loop μ-loop
+marks-requires c κs = search needs
+
+first-pieces-requires : tie.Need-first-pieces-requires Inv-loop μ-loop
+first-pieces-requires c κs = search needs
+
+no-job-requires : tie.Need-no-job-requires Inv-loop μ-loop
+no-job-requires c κs = search needs
+
+loop-holds : tie.Need-loop-holds Inv-loop μ-loop
+loop-holds c = (search needs, search needs, λ rs e h. rw (c .no-job .ensures) (padded-start 64 noJob _))
+
+mul-released-job : tie.Need-mul-released-job Inv-loop μ-loop
+mul-released-job c = search needs
+
+element-copy-out-released-job : tie.Need-element-copy-out-released-job Inv-loop μ-loop
+element-copy-out-released-job c = search needs
+
+array-read-released-job : tie.Need-array-read-released-job Inv-loop μ-loop
+array-read-released-job c = search needs
+
+array-read-released-job-2 : tie.Need-array-read-released-job-2 Inv-loop μ-loop
+array-read-released-job-2 c = search needs
+
+released-job-requires : tie.Need-released-job-requires Inv-loop μ-loop
+released-job-requires c κs = search needs
+
+mul-jobs : tie.Need-mul-jobs Inv-loop μ-loop
+mul-jobs c = search needs
+
+array-set-from-jobs : tie.Need-array-set-from-jobs Inv-loop μ-loop
+array-set-from-jobs c = search needs
+
+add-i : tie.Need-add-i Inv-loop μ-loop
+add-i c = search needs
+
+loop-less : tie.Need-loop-less Inv-loop μ-loop
+loop-less c = search needs
+
+loop-again : tie.Need-loop-again Inv-loop μ-loop
+loop-again c = (search needs, search needs, λ rs e h. padded-turn 64 noJob _ _ _ _ (search needs) (c .before .before .before .before .loop .inv .2 rs e h) (c .released-job .ensures _ rs _ (tabulated 256 (member rs) _ _ false e (omega arith)) (tabulated 256 (firstPiece _) _ _ 0 h (omega arith))))
+
+returns : tie.Need-returns Inv-loop μ-loop
+unfolding release eachJob
+returns c = let e : c .before .before .loop .i ≡ c .before .before .before .before .before .before .args .plan .count = omega arith in simp (c .before .before .loop .inv .2 _ (c .before .before .before .before .before .marks .ensures) (c .before .before .before .before .first-pieces .ensures), e)
+
+pub release-spec : {M : Type 1} → statement M
+release-spec =
+    tie.close
+    (tie.spec
+    Inv-loop
+    μ-loop
+    marks-requires
+    first-pieces-requires
+    no-job-requires
+    loop-holds
+    mul-released-job
+    element-copy-out-released-job
+    array-read-released-job
+    array-read-released-job-2
+    released-job-requires
+    mul-jobs
+    array-set-from-jobs
+    add-i
+    loop-less
+    loop-again
+    returns)
