@@ -9,9 +9,9 @@ use native.Mathlib.Omega.{arith}
 use lib.Dec.{eqb}
 use lib.ListN.{getD, set}
 use borrow.Author.Tests.{eq-eqb, ne-eqb}
-use Rattle.tasks.specs.Below.{any, first, count, tabulate}
+use Rattle.tasks.specs.Below.{any, first, count, tabulate, padded}
 use Rattle.tasks.proofs.Below.{count-more, any-more, any-make, first-holds, first-none}
-use Rattle.tasks.proofs.Padded.{tabulate-at}
+use Rattle.tasks.proofs.Padded.{tabulate-at, padded-in}
 use Rattle.tasks.proofs.Tabulate.{tabulate-same, tabulate-turn}
 use Rattle.dispatch.specs.Jobs.{byRunner, names}
 use Rattle.dispatch.specs.declared.Runner.{Runner}
@@ -28,6 +28,9 @@ or-one false h = sym h
 -- what a table has at i
 pub tabulated : {A : Type 0} (n : ℕ) (f : ℕ → A) (xs : List A) (i : ℕ) (d : A) → xs ≡ tabulate n f → i < n → f i ≡ getD xs i d
 tabulated n f xs i d e l = rw e (sym (tabulate-at n f i d l))
+
+pub padded-has : {A : Type 0} (size : ℕ) (empty : A) (n : ℕ) (f : ℕ → A) (xs : List A) (i : ℕ) → xs ≡ padded size n empty f → i < n → i < size → getD xs i empty ≡ f i
+padded-has size empty n f xs i e l b = rw e (padded-in size empty n f i l b)
 
 -- one more that is counted or not
 pub count-turn : (f : ℕ → Bool) (i a b : ℕ) (t : Bool) → a ≡ count i f → b ≡ cond t 1 0 → t ≡ f i → a + b ≡ count (i + 1) f

@@ -5,3 +5,4 @@ pub mod Rules
 pub mod Refusing
 pub mod Tick
 pub mod Sound
+pub mod Choice

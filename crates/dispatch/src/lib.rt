@@ -1,14 +1,22 @@
 // The vocabulary of the dispatcher: jobs, what runs on a core, the state, sets of tasks, and what a tick answers.
 ghost use mathlib.Core.Bool.{Bool, true, false, not, _&&_, cond};
 ghost use mathlib.Core.Path.{_≡_};
-ghost use Prim.Native.Nat.{ℕ, _+_, _≤_, _<_, min};
-ghost use Rattle.tasks.specs.Below.{tabulate};
-ghost use Rattle.plans.specs.Pieces.{taskOf, pieceOf};
-ghost use Rattle.dispatch.specs.Jobs.{noJob, noRun, jobOf, lastOf, byRunner, isActive, onceReleased, names};
-ghost use Rattle.dispatch.specs.Rules.{total as totalled, endedJob, finishedJob, finish, turnsLate, markedJob, markLate, firstPiece, releasedJob, release, agedJob, age as aged};
+ghost use lib.Dec.{ltb, eqb};
+ghost use Prim.Native.Nat.{ℕ, suc, _+_, _≤_, _<_, min};
+ghost use Rattle.tasks.specs.Below.{tabulate, padded};
+ghost use Rattle.plans.specs.Pieces.{noPiece, taskOf, pieceOf};
+ghost use Rattle.plans.specs.Rank.{above};
+ghost use Rattle.plans.specs.Shape.{isLast};
+ghost use Rattle.dispatch.specs.Choice.{noStand, standOf, bestOf};
+ghost use Rattle.dispatch.specs.Jobs.{noJob, noRun, jobOf, lastOf, byRunner, isActive, onceReleased, names as named};
+ghost use Rattle.dispatch.specs.Rules.{total as totalled, endedJob, finishedJob, finish, turnsLate, markedJob, markLate, firstPiece, releasedJob, release, agedJob, age as aged, beats as beaten, highest, chosen, runsNow, ranJob, run, preempted as pushed, countPreempted};
 ghost use Rattle.dispatch.specs.Sets.{member};
+ghost use Rattle.dispatch.specs.Sound.{Sound, AtPieces, RanTasks};
+use plans::Kind;
+use plans::Piece;
 use plans::Plan;
 use tasks::Answer;
+use tasks::CoreNo;
 use tasks::Task;
 use tasks::TaskNo;
 
@@ -56,6 +64,20 @@ pub struct Ticked {
     pub answer: Answer,
     pub runs: [CoreRun; 16],
     pub state: State,
+}
+
+// Where a job stands: whether it is active, its piece, whether that is its task's last, and its task's deadline.
+struct Stand {
+    active: bool,
+    last: bool,
+    piece: Piece,
+    deadline: u32,
+}
+
+// The best found so far on a core, and where its job stands.
+struct Best {
+    runner: Runner,
+    stand: Stand,
 }
 
 fn is_active(phase: Phase) -> bool
@@ -226,6 +248,174 @@ fn older(age: u32, period: u32) -> u32
     if age < period { age + 1 } else { period }
 }
 
+// Is it this task that runs?
+fn names(task: usize, runner: Runner) -> bool
+    ensures { λ r. ⌜ r ≡ named task runner ⌝ }
+{
+    match runner {
+        Runner::Idle => false,
+        Runner::Runs(t) => t.index() == task,
+    }
+}
+
+fn no_piece() -> Piece
+    ensures { λ r. ⌜ r ≡ noPiece ⌝ }
+{
+    Piece {
+        task: TaskNo(0),
+        core: CoreNo(0),
+        kind: Kind::Whole,
+        cost: 0,
+    }
+}
+
+fn no_stand() -> Stand
+    ensures { λ r. ⌜ r ≡ noStand ⌝ }
+{
+    let piece = no_piece();
+    Stand {
+        active: false,
+        last: false,
+        piece,
+        deadline: 0,
+    }
+}
+
+// A job's piece as a place in the plan's list.
+fn place_of(job: Job) -> usize
+    ensures { λ r. ⌜ (r ≡ job .piece) × (r < 256) ⌝ }
+{
+    job.piece as usize
+}
+
+// Is the piece at j, of the first `placed`, its task's last, `next` being the one after it?
+fn is_last(placed: usize, j: usize, piece: Piece, next: Piece) -> bool
+    requires { ⌜ j < 256 ⌝ }
+    ensures { λ r. ⌜ ((pc : ℕ → Piece) → pc j ≡ piece → (j + 1 < placed → pc (j + 1) ≡ next) → r ≡ isLast pc placed j) ⌝ }
+{
+    if j + 1 < placed {
+        piece.task.index() != next.task.index()
+    } else {
+        true
+    }
+}
+
+// Is the piece of the one on the core of the other's and ranked above it?
+fn is_above(a: Stand, b: Stand) -> bool
+    ensures { λ r. ⌜ ((ts : ℕ → Task) → ts (a .piece .task .0) .deadline ≡ a .deadline → ts (b .piece .task .0) .deadline ≡ b .deadline → r ≡ above ts (a .piece) (b .piece)) ⌝ }
+{
+    let a_piece = a.piece;
+    let b_piece = b.piece;
+    (a_piece.core.index() == b_piece.core.index())
+        & plans::outranks(a_piece, a.deadline, b_piece, b.deadline)
+}
+
+// Is the job's piece ranked above that of the best found so far?
+fn beats(stand: Stand, best: Best) -> bool
+    ensures { λ r. ⌜ ((p : Plan) (s : State) (x k i : ℕ) → stand ≡ standOf p s i → best ≡ bestOf p s x k → r ≡ beaten p s i (highest p s x k)) ⌝ }
+{
+    let runner = best.runner;
+    let held = best.stand;
+    match runner {
+        Runner::Idle => true,
+        Runner::Runs(_) => is_above(stand, held),
+    }
+}
+
+// The best on a core, one more job being looked at.
+fn better(best: Best, stand: Stand, task: u8, core: usize) -> Best
+    ensures { λ r. ⌜ ((p : Plan) (s : State) → stand ≡ standOf p s task → best ≡ bestOf p s core task → r ≡ bestOf p s core (task + 1)) ⌝ }
+{
+    let place = stand.piece.core;
+    let here = stand.active & (place.index() == core);
+    if here & beats(stand, best) {
+        let runner = Runner::Runs(TaskNo(task));
+        Best { runner, stand }
+    } else {
+        best
+    }
+}
+
+// The highest ranked job on a core: one walk over the tasks.
+fn highest_on(stands: [Stand; 64], count: usize, core: usize) -> CoreRun
+    requires { ⌜ count ≤ 64 ⌝ }
+    ensures { λ r. ⌜ ((p : Plan) (s : State) → p .count ≡ count → stands ≡ padded 64 count noStand (standOf p s) → r ≡ chosen p s core) ⌝ }
+{
+    let runner = Runner::Idle;
+    let stand = no_stand();
+    let mut best = Best { runner, stand };
+    let mut i = 0;
+    while i < count {
+        best = better(best, stands[i], i as u8, core);
+        i += 1;
+    }
+    let runner = best.runner;
+    CoreRun { runner }
+}
+
+// What runs on each core.
+fn choose(stands: [Stand; 64], count: usize, cores: usize) -> [CoreRun; 16]
+    requires { ⌜ (count ≤ 64) × (cores ≤ 16) ⌝ }
+    ensures { λ r. ⌜ ((p : Plan) (s : State) → p .count ≡ count → stands ≡ padded 64 count noStand (standOf p s) → r ≡ padded 16 cores noRun (chosen p s)) ⌝ }
+{
+    let empty = no_run();
+    let mut runs = [empty; 16];
+    let mut x = 0;
+    while x < cores {
+        runs[x] = highest_on(stands, count, x);
+        x += 1;
+    }
+    runs
+}
+
+// Are there ticks left of the cost after one more?
+fn more_left(ran: u32, cost: u32) -> bool
+    ensures { λ r. ⌜ r ≡ ltb (ran + 1) cost ⌝ }
+{
+    (ran as u64) + 1 < cost as u64
+}
+
+// Rules 4 and 5 for one job, which runs or not, at a piece of this cost, its task's last or not.
+fn ran_job(job: Job, runs: bool, cost: u32, last: bool) -> Job
+    requires { ⌜ (last ≡ false → job .piece < 255) ⌝ }
+    ensures { λ r. ⌜ ((p : Plan) → pieceOf p (job .piece) .cost ≡ cost → isLast (pieceOf p) (p .placed) (job .piece) ≡ last → r ≡ cond runs (ranJob p job) job) ⌝ }
+{
+    let phase = job.phase;
+    if runs {
+        if more_left(job.ran, cost) {
+            Job {
+                phase,
+                late: job.late,
+                piece: job.piece,
+                age: job.age,
+                ran: job.ran + 1,
+            }
+        } else if last {
+            ended_job(job)
+        } else {
+            Job {
+                phase,
+                late: job.late,
+                piece: job.piece + 1,
+                age: job.age,
+                ran: 0,
+            }
+        }
+    } else {
+        job
+    }
+}
+
+// Was the task that ran on a core in the tick before, active or not since rule 1, preempted by what runs there now?
+fn preempted(before: Runner, active: bool, now: Runner) -> bool
+    ensures { λ r. ⌜ ((s n : State) (x : ℕ) → lastOf s x ≡ before → isActive (jobOf s (byRunner before 0 (λ t. t)) .phase) ≡ active → lastOf n x ≡ now → r ≡ pushed s n x) ⌝ }
+{
+    match before {
+        Runner::Idle => false,
+        Runner::Runs(task) => active & !names(task.index(), now),
+    }
+}
+
 // The smaller of two counts.
 fn smaller(a: usize, b: usize) -> usize
     ensures { λ r. ⌜ r ≡ min a b ⌝ }
@@ -327,6 +517,86 @@ impl State {
             i += 1;
         }
         self.jobs = jobs;
+        self
+    }
+
+    // Where each job stands.
+    fn stands(self, plan: Plan) -> [Stand; 64]
+        requires { ⌜ Sound plan × AtPieces plan self ⌝ }
+        ensures { λ r. ⌜ r ≡ padded 64 (plan .count) noStand (standOf plan self) ⌝ }
+    {
+        let empty = no_stand();
+        let mut stands = [empty; 64];
+        let mut i = 0;
+        while i < plan.count {
+            let job = self.jobs[i];
+            let phase = job.phase;
+            let place = place_of(job);
+            let piece = plan.pieces[place];
+            let next = plan.pieces[smaller(place + 1, 127)];
+            let task = plan.tasks[piece.task.index()];
+            stands[i] = Stand {
+                active: is_active(phase),
+                last: is_last(plan.placed, place, piece, next),
+                piece,
+                deadline: task.deadline,
+            };
+            i += 1;
+        }
+        stands
+    }
+
+    // The jobs after those that were chosen have run.
+    fn ran_jobs(self, plan: Plan, stands: [Stand; 64], last: [CoreRun; 16]) -> [Job; 64]
+        requires { ⌜ Sound plan × AtPieces plan self × (stands ≡ padded 64 (plan .count) noStand (standOf plan self)) × (last ≡ padded 16 (plan .cores) noRun (chosen plan self)) ⌝ }
+        ensures { λ r. ⌜ r ≡ run plan self .jobs ⌝ }
+    {
+        let empty = no_job();
+        let mut jobs = [empty; 64];
+        let mut i = 0;
+        while i < plan.count {
+            let stand = stands[i];
+            let piece = stand.piece;
+            let core = last[piece.core.index()];
+            let runner = core.runner;
+            let runs = stand.active & names(i, runner);
+            jobs[i] = ran_job(self.jobs[i], runs, piece.cost, stand.last);
+            i += 1;
+        }
+        jobs
+    }
+
+    // Rules 4 and 5: all runners are chosen before any of them has run.
+    fn run(mut self, plan: Plan) -> State
+        requires { ⌜ Sound plan × AtPieces plan self ⌝ }
+        ensures { λ r. ⌜ r ≡ run plan self ⌝ }
+    {
+        let stands = self.stands(plan);
+        let last = choose(stands, plan.count, plan.cores);
+        let jobs = self.ran_jobs(plan, stands, last);
+        self.jobs = jobs;
+        self.last = last;
+        self
+    }
+
+    // The preemptions, `after` being the state after rule 1 and this one having what runs now.
+    fn count_preempted(mut self, plan: Plan, after: State) -> State
+        requires { ⌜ (plan .cores ≤ 16) × RanTasks plan after ⌝ }
+        ensures { λ r. ⌜ r ≡ countPreempted plan after self ⌝ }
+    {
+        let mut count: u32 = 0;
+        let mut x = 0;
+        while x < plan.cores {
+            let ran = after.last[x];
+            let before = ran.runner;
+            let job = after.jobs[task_of(before)];
+            let phase = job.phase;
+            let runs = self.last[x];
+            let now = runs.runner;
+            count += one_if(preempted(before, is_active(phase), now));
+            x += 1;
+        }
+        self.preemptions = total(self.preemptions, count);
         self
     }
 

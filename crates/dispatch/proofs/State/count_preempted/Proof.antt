@@ -1,0 +1,98 @@
+use mathlib.Core.Path.{_≡_, refl, sym, ap, _∙_}
+use Prim.Native.Nat.{ℕ, _-_, _≤_}
+use native.Mathlib.Omega.{arith}
+use borrow.Author.Needs.{needs}
+use Rattle.tasks.specs.Below.{sum, count as counted}
+use Rattle.dispatch.specs.Jobs.{jobOf, isActive}
+use Rattle.dispatch.specs.Rules.{preempted, countPreempted}
+use Rattle.dispatch.specs.Sound.{RanTasks}
+use Rattle.dispatch.proofs.Walks.{count-turn}
+use Rattle.dispatch.proofs.State.count_preempted.Statement.{statement}
+use Rattle.dispatch.proofs.State.count_preempted.Tie as tie
+
+abbrev Inv-loop : tie.InvT-loop
+Inv-loop plan self after count₀ x₀ count x = (x ≤ plan .cores) × (plan .cores ≤ 16) × (RanTasks plan after) × (count ≤ x) × (count ≡ counted x (preempted after self))
+
+abbrev μ-loop : tie.MeasureT-loop
+μ-loop plan self after count₀ x₀ count x = plan .cores - x
+
+loop-holds : tie.Need-loop-holds Inv-loop μ-loop
+unfolding counted sum
+loop-holds c = (search needs, c .pre .0, c .pre .1, search needs, refl)
+
+mul-ran : tie.Need-mul-ran Inv-loop μ-loop
+mul-ran c = search needs
+
+element-copy-out-ran : tie.Need-element-copy-out-ran Inv-loop μ-loop
+element-copy-out-ran c = search needs
+
+task-of-requires : tie.Need-task-of-requires Inv-loop μ-loop
+task-of-requires c κs = search needs
+
+mul-job : tie.Need-mul-job Inv-loop μ-loop
+mul-job c = search needs
+
+element-copy-out-job : tie.Need-element-copy-out-job Inv-loop μ-loop
+element-copy-out-job c = let b = c .before .before .before .before in omega (arith, b .loop .inv .2 (b .loop .x) (c .before .before .if1 .taken), c .task-of .ensures .0)
+
+mul-runs : tie.Need-mul-runs Inv-loop μ-loop
+mul-runs c = search needs
+
+element-copy-out-runs : tie.Need-element-copy-out-runs Inv-loop μ-loop
+element-copy-out-runs c = search needs
+
+is-active-requires : tie.Need-is-active-requires Inv-loop μ-loop
+is-active-requires c κs = search needs
+
+preempted-requires : tie.Need-preempted-requires Inv-loop μ-loop
+preempted-requires c κs = search needs
+
+one-if-requires : tie.Need-one-if-requires Inv-loop μ-loop
+one-if-requires c κs = search needs
+
+add-count : tie.Need-add-count Inv-loop μ-loop
+add-count c = search needs
+
+add-x : tie.Need-add-x Inv-loop μ-loop
+add-x c = search needs
+
+loop-less : tie.Need-loop-less Inv-loop μ-loop
+loop-less c = search needs
+
+loop-again : tie.Need-loop-again Inv-loop μ-loop
+loop-again c =
+    let b = c .before .before .before .before .before .before .before .before .before in
+    let a = b .before .args in
+    let h = ap (λ (k : ℕ). isActive (jobOf (a .t3) k .phase)) (sym (c .before .before .before .before .before .task-of .ensures .0)) ∙ sym (c .before .before .is-active .ensures) in
+    (search needs, search needs, b .loop .inv .2, omega arith, count-turn _ _ _ _ _ (b .loop .inv .4) (c .one-if .ensures .0) (c .before .preempted .ensures (a .t3) (a .t1) (b .loop .x) refl h refl))
+
+total-requires : tie.Need-total-requires Inv-loop μ-loop
+total-requires c κs = search needs
+
+returns : tie.Need-returns Inv-loop μ-loop
+unfolding countPreempted
+returns c = let e : c .before .before .before .loop .x ≡ c .before .before .before .before .args .plan .cores = omega arith in simp (c .total .ensures, c .before .before .before .loop .inv .4, e)
+
+pub count-preempted-spec : {M : Type 1} → statement M
+count-preempted-spec =
+    tie.close
+    (tie.spec
+    Inv-loop
+    μ-loop
+    loop-holds
+    mul-ran
+    element-copy-out-ran
+    task-of-requires
+    mul-job
+    element-copy-out-job
+    mul-runs
+    element-copy-out-runs
+    is-active-requires
+    preempted-requires
+    one-if-requires
+    add-count
+    add-x
+    loop-less
+    loop-again
+    total-requires
+    returns)

@@ -1,0 +1,106 @@
+use mathlib.Core.Bool.{cond}
+use mathlib.Core.Path.{_≡_, ap, _∙_}
+use Prim.Native.Nat.{ℕ, _-_, _≤_, _<_}
+use native.Mathlib.Omega.{arith}
+use lib.ListN.{getD}
+use borrow.Author.Needs.{needs}
+use Rattle.tasks.proofs.Padded.{padded-turn}
+use Rattle.tasks.proofs.Tabulate.{padded-start}
+use Rattle.tasks.specs.Below.{padded}
+use Rattle.dispatch.specs.Choice.{noStand, standOf}
+use Rattle.dispatch.specs.Jobs.{noJob, noRun, jobOf}
+use Rattle.dispatch.specs.Rules.{chosen, run, eachJob, runsNow, ranJob}
+use Rattle.dispatch.specs.Sound.{Sound, AtPieces}
+use Rattle.dispatch.proofs.Choosing.{stand-is, stand-core, stand-next, ran-turn}
+use Rattle.dispatch.proofs.Walks.{padded-has}
+use Rattle.dispatch.proofs.State.ran_jobs.Statement.{statement}
+use Rattle.dispatch.proofs.State.ran_jobs.Tie as tie
+
+abbrev Inv-loop : tie.InvT-loop
+Inv-loop plan self stands last jobs₀ i₀ jobs i = (i ≤ plan .count) × (Sound plan) × (AtPieces plan self) × (stands ≡ padded 64 (plan .count) noStand (standOf plan self)) × (last ≡ padded 16 (plan .cores) noRun (chosen plan self)) × (jobs ≡ padded 64 i noJob (λ k. cond (runsNow plan self k) (ranJob plan (jobOf self k)) (jobOf self k)))
+
+abbrev μ-loop : tie.MeasureT-loop
+μ-loop plan self stands last jobs₀ i₀ jobs i = plan .count - i
+
+no-job-requires : tie.Need-no-job-requires Inv-loop μ-loop
+no-job-requires c κs = search needs
+
+loop-holds : tie.Need-loop-holds Inv-loop μ-loop
+loop-holds c = let r = c .before .pre in (search needs, r .0, r .1, r .2, r .3, rw (c .no-job .ensures) (padded-start 64 noJob _))
+
+mul-stand : tie.Need-mul-stand Inv-loop μ-loop
+mul-stand c = search needs
+
+array-copy-out-stand : tie.Need-array-copy-out-stand Inv-loop μ-loop
+array-copy-out-stand c = search needs
+
+index-requires : tie.Need-index-requires Inv-loop μ-loop
+index-requires c κs = search needs
+
+mul-core : tie.Need-mul-core Inv-loop μ-loop
+mul-core c = search needs
+
+array-copy-out-core : tie.Need-array-copy-out-core Inv-loop μ-loop
+array-copy-out-core c = let b = c .before .before .before .before .before in let a = b .before .before .args in omega (arith, stand-core (a .plan) (a .t1) (b .loop .inv .1) _ (b .loop .inv .3) (b .loop .i) (omega arith) (b .loop .inv .2), c .index .ensures .0, b .loop .inv .1 .cores)
+
+names-requires : tie.Need-names-requires Inv-loop μ-loop
+names-requires c κs = search needs
+
+mul-ran-job : tie.Need-mul-ran-job Inv-loop μ-loop
+mul-ran-job c = search needs
+
+element-copy-out-ran-job : tie.Need-element-copy-out-ran-job Inv-loop μ-loop
+element-copy-out-ran-job c = search needs
+
+ran-job-requires : tie.Need-ran-job-requires Inv-loop μ-loop
+ran-job-requires c κs = let b = c .before .before .before .before .before .before .before .before .before in let a = b .before .before .args in stand-next (a .plan) (a .t1) (b .loop .inv .1) _ (b .loop .inv .3) (b .loop .i) (omega arith)
+
+mul-jobs : tie.Need-mul-jobs Inv-loop μ-loop
+mul-jobs c = search needs
+
+array-set-from-jobs : tie.Need-array-set-from-jobs Inv-loop μ-loop
+array-set-from-jobs c = search needs
+
+add-i : tie.Need-add-i Inv-loop μ-loop
+add-i c = search needs
+
+loop-less : tie.Need-loop-less Inv-loop μ-loop
+loop-less c = search needs
+
+loop-again : tie.Need-loop-again Inv-loop μ-loop
+loop-again c =
+    let b = c .before .before .before .before .before .before .before .before .before .before in
+    let a = b .before .before .args in
+    let n = b .loop .inv in
+    let h : b .loop .i < a .plan .count = c .before .before .before .before .before .before .before .before .if1 .taken in
+    let q = stand-is (a .plan) (a .t1) (n .1) _ (n .3) (b .loop .i) h in
+    let x = stand-core (a .plan) (a .t1) (n .1) _ (n .3) (b .loop .i) h (n .2) in
+    (search needs, n .1, n .2, n .3, n .4, padded-turn 64 noJob _ _ _ _ (omega (arith, n .1 .count)) (n .5) (ran-turn (a .plan) (a .t1) (b .loop .i) _ _ _ _ q (ap (λ (k : ℕ). getD (a .t4) k noRun) (c .before .before .before .before .before .index .ensures .0) ∙ padded-has 16 noRun _ (chosen (a .plan) (a .t1)) _ _ (n .4) x (omega (arith, x, n .1 .cores))) (c .before .before .before .names .ensures) (c .ran-job .ensures (a .plan))))
+
+returns : tie.Need-returns Inv-loop μ-loop
+unfolding run eachJob
+returns c = let e : c .before .before .loop .i ≡ c .before .before .before .before .args .plan .count = omega arith in simp (c .before .before .loop .inv .5, e)
+
+pub ran-jobs-spec : {M : Type 1} → statement M
+ran-jobs-spec =
+    tie.close
+    (tie.spec
+    Inv-loop
+    μ-loop
+    no-job-requires
+    loop-holds
+    mul-stand
+    array-copy-out-stand
+    index-requires
+    mul-core
+    array-copy-out-core
+    names-requires
+    mul-ran-job
+    element-copy-out-ran-job
+    ran-job-requires
+    mul-jobs
+    array-set-from-jobs
+    add-i
+    loop-less
+    loop-again
+    returns)
