@@ -13,7 +13,7 @@ use Rattle.tasks.specs.Below.{any, first, count, tabulate, padded}
 use Rattle.tasks.proofs.Below.{count-more, any-more, any-make, first-holds, first-none}
 use Rattle.tasks.proofs.Padded.{tabulate-at, padded-in}
 use Rattle.tasks.proofs.Tabulate.{tabulate-same, tabulate-turn}
-use Rattle.dispatch.specs.Jobs.{byRunner, names}
+use Rattle.dispatch.specs.Jobs.{byRunner, runningTask, names}
 use Rattle.dispatch.specs.declared.Runner.{Runner}
 use Rattle.dispatch.specs.declared.Runner.the-variants.{Idle, Runs}
 
@@ -43,10 +43,6 @@ marks-more n m xs k t e q l =
     tabulate-turn n _ (λ i. any (k + 1) (λ j. eqb (m j) i)) xs t true e l
     (or-one (any k (λ j. eqb (m j) t)) (eq-eqb (m k) t (sym q)) ∙ sym (any-more k (λ j. eqb (m j) t)))
     (λ i d. or-none (any k (λ j. eqb (m j) i)) (ne-eqb (m k) i (λ b. d (sym b ∙ sym q))) ∙ sym (any-more k (λ j. eqb (m j) i)))
-
--- the task that runs, or 0 where nothing does
-abbrev runningTask : Runner → ℕ
-runningTask r = byRunner r 0 (λ t. t)
 
 running : (r : Runner) → byRunner r false (λ t. true) ≡ names (runningTask r) r
 running Idle = refl

@@ -43,6 +43,10 @@ abbrev pub byRunner : {A : Type 0} → Runner → A → (ℕ → A) → A
 byRunner Idle idle runs = idle
 byRunner (Runs t) idle runs = runs (t .0)
 
+-- the task that runs, or 0 where nothing does
+abbrev pub runningTask : Runner → ℕ
+runningTask r = byRunner r 0 (λ t. t)
+
 -- is it task i that runs?
 abbrev pub names : ℕ → Runner → Bool
 names i r = byRunner r false (λ t. eqb t i)

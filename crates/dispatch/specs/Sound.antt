@@ -2,7 +2,7 @@
 use Prim.Native.Nat.{ℕ, _≤_, _<_}
 use Rattle.plans.specs.Pieces.{pieceOf}
 use Rattle.plans.specs.declared.Plan.{Plan}
-use Rattle.dispatch.specs.Jobs.{jobOf, lastOf, byRunner}
+use Rattle.dispatch.specs.Jobs.{jobOf, lastOf, runningTask}
 use Rattle.dispatch.specs.declared.State.{State}
 
 -- the counts are within the records, and each piece is of a task and on a core of the plan
@@ -19,4 +19,4 @@ AtPieces p s = (i : ℕ) → i < p .count → jobOf s i .piece < p .placed
 
 -- what ran on each core in the last tick was a task of the plan
 abbrev pub RanTasks : Plan → State → Type 0
-RanTasks p s = (x : ℕ) → x < p .cores → byRunner (lastOf s x) 0 (λ t. t) < 64
+RanTasks p s = (x : ℕ) → x < p .cores → runningTask (lastOf s x) < 64

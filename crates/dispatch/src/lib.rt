@@ -1,17 +1,20 @@
 // The vocabulary of the dispatcher: jobs, what runs on a core, the state, sets of tasks, and what a tick answers.
 ghost use mathlib.Core.Bool.{Bool, true, false, not, _&&_, cond};
+ghost use mathlib.Core.List.{List};
 ghost use mathlib.Core.Path.{_≡_};
 ghost use lib.Dec.{ltb, eqb};
+ghost use lib.ListN.{length, getD};
 ghost use Prim.Native.Nat.{ℕ, suc, _+_, _≤_, _<_, min};
-ghost use Rattle.tasks.specs.Below.{tabulate, padded};
+ghost use Rattle.tasks.specs.Below.{all, any, tabulate, padded};
 ghost use Rattle.plans.specs.Pieces.{noPiece, taskOf, pieceOf};
 ghost use Rattle.plans.specs.Rank.{above};
 ghost use Rattle.plans.specs.Shape.{isLast};
 ghost use Rattle.dispatch.specs.Choice.{noStand, standOf, bestOf};
-ghost use Rattle.dispatch.specs.Jobs.{noJob, noRun, jobOf, lastOf, byRunner, isActive, onceReleased, names as named};
+ghost use Rattle.dispatch.specs.Jobs.{freshState, runningTask, noJob, noRun, jobOf, lastOf, byRunner, isActive, onceReleased, names as named};
 ghost use Rattle.dispatch.specs.Rules.{total as totalled, endedJob, finishedJob, finish, turnsLate, markedJob, markLate, firstPiece, releasedJob, release, agedJob, age as aged, beats as beaten, highest, chosen, runsNow, ranJob, run, preempted as pushed, countPreempted};
 ghost use Rattle.dispatch.specs.Sets.{member};
 ghost use Rattle.dispatch.specs.Sound.{Sound, AtPieces, RanTasks};
+ghost use Rattle.dispatch.specs.WellMade.{ageFits, pieceExists, atNoPiece, jobWellMade, coreWellMade, wellMade};
 use plans::Kind;
 use plans::Piece;
 use plans::Plan;
@@ -102,7 +105,7 @@ fn once_released(phase: Phase) -> bool
 
 // The task that runs, or 0 where nothing does.
 fn task_of(runner: Runner) -> usize
-    ensures { λ r. ⌜ (r ≡ byRunner runner 0 (λ t. t)) × (r < 256) ⌝ }
+    ensures { λ r. ⌜ (r ≡ runningTask runner) × (r < 256) ⌝ }
 {
     match runner {
         Runner::Idle => 0,
@@ -408,7 +411,7 @@ fn ran_job(job: Job, runs: bool, cost: u32, last: bool) -> Job
 
 // Was the task that ran on a core in the tick before, active or not since rule 1, preempted by what runs there now?
 fn preempted(before: Runner, active: bool, now: Runner) -> bool
-    ensures { λ r. ⌜ ((s n : State) (x : ℕ) → lastOf s x ≡ before → isActive (jobOf s (byRunner before 0 (λ t. t)) .phase) ≡ active → lastOf n x ≡ now → r ≡ pushed s n x) ⌝ }
+    ensures { λ r. ⌜ ((s n : State) (x : ℕ) → lastOf s x ≡ before → isActive (jobOf s (runningTask before) .phase) ≡ active → lastOf n x ≡ now → r ≡ pushed s n x) ⌝ }
 {
     match before {
         Runner::Idle => false,
@@ -614,5 +617,117 @@ impl State {
         }
         self.jobs = jobs;
         self
+    }
+}
+
+// An age of at least 1 and at most the period.
+fn age_fits(task: Task, job: Job) -> bool
+    ensures { λ r. ⌜ ((p : Plan) (i : ℕ) → taskOf p i ≡ task → r ≡ ageFits p i job) ⌝ }
+{
+    (1 <= job.age) & (job.age <= task.period)
+}
+
+// The piece at a place of the plan's list, `here` being the one there or, past the list, any other.
+fn piece_or_none(place: usize, here: Piece) -> Piece
+    ensures { λ r. ⌜ ((pieces : List Piece) → length pieces ≡ 128 → getD pieces (min place 127) noPiece ≡ here → r ≡ getD pieces place noPiece) ⌝ }
+{
+    if place < 128 { here } else { no_piece() }
+}
+
+// Does an active job's piece exist, being task i's, with ticks run there below its cost?
+fn piece_exists(i: usize, job: Job, piece: Piece, placed: usize) -> bool
+    ensures { λ r. ⌜ ((p : Plan) → p .placed ≡ placed → pieceOf p (job .piece) ≡ piece → r ≡ pieceExists p i job) ⌝ }
+{
+    (place_of(job) < placed) & (piece.task.index() == i) & (job.ran < piece.cost)
+}
+
+// Piece, ticks and late mark 0.
+fn at_no_piece(job: Job) -> bool
+    ensures { λ r. ⌜ r ≡ atNoPiece job ⌝ }
+{
+    (job.piece == 0) & (job.ran == 0) & !job.late
+}
+
+// Task i's job is as a well made state has it, `piece` being the one that it is at.
+fn job_well_made(i: usize, task: Task, job: Job, piece: Piece, placed: usize) -> bool
+    ensures { λ r. ⌜ ((p : Plan) → taskOf p i ≡ task → p .placed ≡ placed → pieceOf p (job .piece) ≡ piece → r ≡ jobWellMade p i job) ⌝ }
+{
+    let phase = job.phase;
+    match phase {
+        Phase::Never => (job.age == 0) & at_no_piece(job),
+        Phase::Active => age_fits(task, job) & piece_exists(i, job, piece, placed),
+        Phase::Ended => age_fits(task, job) & at_no_piece(job),
+    }
+}
+
+// A core's last task is none, or a task of the plan that was once released and stands on no lower core.
+fn core_well_made(runner: Runner, released: bool, seen: bool) -> bool
+    ensures { λ r. ⌜ ((p : Plan) (s : State) (x : ℕ) → lastOf s x ≡ runner → ltb (runningTask runner) (p .count) && onceReleased (jobOf s (runningTask runner) .phase) ≡ released → any x (λ y. named (runningTask runner) (lastOf s y)) ≡ seen → r ≡ coreWellMade p s x) ⌝ }
+{
+    match runner {
+        Runner::Idle => true,
+        Runner::Runs(_) => released & !seen,
+    }
+}
+
+// Are all jobs as a well made state has them?
+fn jobs_well_made(plan: Plan, state: State) -> bool
+    ensures { λ r. ⌜ r ≡ all (plan .count) (λ i. jobWellMade plan i (jobOf state i)) ⌝ }
+{
+    let count = smaller(plan.count, 64);
+    let mut good = true;
+    let mut i = 0;
+    while i < count {
+        let job = state.jobs[i];
+        let place = place_of(job);
+        let piece = piece_or_none(place, plan.pieces[smaller(place, 127)]);
+        good = good & job_well_made(i, plan.tasks[i], job, piece, plan.placed);
+        i += 1;
+    }
+    good
+}
+
+// Is each core's last task none or a task once released, and none on two cores?
+fn cores_well_made(plan: Plan, state: State) -> bool
+    ensures { λ r. ⌜ r ≡ all (plan .cores) (coreWellMade plan state) ⌝ }
+{
+    let count = smaller(plan.count, 64);
+    let cores = smaller(plan.cores, 16);
+    let mut seen = [false; 256];
+    let mut good = true;
+    let mut x = 0;
+    while x < cores {
+        let core = state.last[x];
+        let runner = core.runner;
+        let task = task_of(runner);
+        let job = state.jobs[smaller(task, 63)];
+        let phase = job.phase;
+        good = good & core_well_made(runner, (task < count) & once_released(phase), seen[task]);
+        seen[task] = seen[task] | is_running(runner);
+        x += 1;
+    }
+    good
+}
+
+// Is the state well made? Any plan and any state may be given.
+pub fn well_made(plan: Plan, state: State) -> bool
+    ensures { λ r. ⌜ r ≡ wellMade plan state ⌝ }
+{
+    jobs_well_made(plan, state) & cores_well_made(plan, state)
+}
+
+// A fresh state has nothing released and zeros.
+pub fn fresh() -> State
+    ensures { λ r. ⌜ r ≡ freshState ⌝ }
+{
+    let job = no_job();
+    let run = no_run();
+    let jobs = [job; 64];
+    let last = [run; 16];
+    State {
+        jobs,
+        last,
+        late: 0,
+        preemptions: 0,
     }
 }
