@@ -1,3 +1,4 @@
 pub mod Walks
 pub mod Choosing
 pub mod Making
+pub mod Judging
