@@ -7,15 +7,17 @@ ghost use lib.ListN.{length, getD};
 ghost use Prim.Native.Nat.{ℕ, suc, _+_, _≤_, _<_, min};
 ghost use Rattle.tasks.specs.Below.{all, any, first, tabulate, padded};
 ghost use Rattle.tasks.specs.Tables.{andThen};
+ghost use Rattle.tasks.specs.declared.Answer.the-variants.{Accepted};
 ghost use Rattle.plans.specs.Pieces.{noPiece, taskOf, pieceOf};
 ghost use Rattle.plans.specs.Rank.{above};
-ghost use Rattle.plans.specs.Shape.{isLast};
+ghost use Rattle.plans.specs.Shape.{isLast, checkedPlan};
 ghost use Rattle.dispatch.specs.Choice.{noStand, standOf, bestOf};
 ghost use Rattle.dispatch.specs.Jobs.{freshState, runningTask, noJob, noRun, jobOf, lastOf, byRunner, isActive, onceReleased, names as named};
-ghost use Rattle.dispatch.specs.Refusing.{notRun, tooSoon, stillActive, lowest};
+ghost use Rattle.dispatch.specs.Refusing.{notRun, tooSoon, stillActive, lowest, judgedSets, judged};
 ghost use Rattle.dispatch.specs.Rules.{total as totalled, endedJob, finishedJob, finish, turnsLate, markedJob, markLate, firstPiece, releasedJob, release, agedJob, age as aged, beats as beaten, highest, chosen, runsNow, ranJob, run, preempted as pushed, countPreempted};
 ghost use Rattle.dispatch.specs.Sets.{member};
 ghost use Rattle.dispatch.specs.Sound.{Sound, AtPieces, RanTasks};
+ghost use Rattle.dispatch.specs.Tick.{nextState, tick as ticked};
 ghost use Rattle.dispatch.specs.WellMade.{ageFits, pieceExists, atNoPiece, jobWellMade, coreWellMade, wellMade};
 use plans::Kind;
 use plans::Piece;
@@ -621,6 +623,16 @@ impl State {
         self.jobs = jobs;
         self
     }
+
+    // The state after an accepted tick: the rules in their order.
+    fn next(self, plan: Plan, finished: Tasks, released: Tasks) -> State
+        requires { ⌜ (checkedPlan plan ≡ Accepted) × (wellMade plan self ≡ true) ⌝ }
+        ensures { λ r. ⌜ r ≡ nextState plan finished released self ⌝ }
+    {
+        let after = self.finish(plan, finished);
+        let ran = after.mark_late(plan).release(plan, released).run(plan);
+        ran.count_preempted(plan, after).age(plan)
+    }
 }
 
 // An age of at least 1 and at most the period.
@@ -853,4 +865,60 @@ fn judge_released(plan: Plan, state: State, released: Tasks) -> Answer
         return Answer::Refused(Refusal::StillActive(TaskNo(active as u8)));
     }
     Answer::Accepted
+}
+
+// Refusals 10, 11 and 12; 11 and 12 are judged after finishes.
+fn judge_sets(plan: Plan, state: State, finished: Tasks, released: Tasks) -> Answer
+    requires { ⌜ (plan .cores ≤ 16) × (plan .count ≤ 64) ⌝ }
+    ensures { λ r. ⌜ r ≡ judgedSets plan state finished released ⌝ }
+{
+    let answer = judge_finished(plan, state, finished);
+    match answer {
+        Answer::Accepted => judge_released(plan, state.finish(plan, finished), released),
+        Answer::Refused(_) => answer,
+    }
+}
+
+// The refusals of a tick in their order: 4, 6, 5 and 8 for the plan, 9 for the state, then the sets'.
+fn judge(plan: Plan, state: State, finished: Tasks, released: Tasks) -> Answer
+    ensures { λ r. ⌜ r ≡ judged plan state finished released ⌝ }
+{
+    let answer = plans::check_plan(plan);
+    match answer {
+        Answer::Accepted => {
+            if well_made(plan, state) {
+                judge_sets(plan, state, finished, released)
+            } else {
+                Answer::Refused(Refusal::NotWellMade)
+            }
+        }
+        Answer::Refused(_) => answer,
+    }
+}
+
+// One tick, for any plan, any state and any two sets: the rules in their order, or a refusal.
+pub fn tick(plan: Plan, state: State, finished: Tasks, released: Tasks) -> Ticked
+    ensures { λ r. ⌜ r ≡ ticked plan state finished released ⌝ }
+{
+    let answer = judge(plan, state, finished, released);
+    match answer {
+        Answer::Accepted => {
+            let next = state.next(plan, finished, released);
+            let runs = next.last;
+            Ticked {
+                answer,
+                runs,
+                state: next,
+            }
+        }
+        Answer::Refused(_) => {
+            let empty = no_run();
+            let runs = [empty; 16];
+            Ticked {
+                answer,
+                runs,
+                state,
+            }
+        }
+    }
 }

@@ -1,0 +1,39 @@
+use Rattle.dispatch.specs.Tick.{nextState}
+use Rattle.dispatch.proofs.Checked.{good, sound}
+use Rattle.dispatch.proofs.Steps.{ready-pieces, finish-tasks}
+use Rattle.dispatch.proofs.State.next.Statement.{statement}
+use Rattle.dispatch.proofs.State.next.Tie as tie
+
+finish-requires : tie.Need-finish-requires
+finish-requires c κs = good (c .args .plan) (c .pre .0) .count .1
+
+mark-late-requires : tie.Need-mark-late-requires
+mark-late-requires c κs = good (c .before .args .plan) (c .before .pre .0) .count .1
+
+release-requires : tie.Need-release-requires
+release-requires c κs = let g = good (c .before .before .args .plan) (c .before .before .pre .0) in (g .count .1, g .placed .1)
+
+run-requires : tie.Need-run-requires
+run-requires c κs = let s = c .before .before .before in let g = good (c .before .before .before .args .plan) (c .before .before .before .pre .0) in (sound (s .args .plan) g, rw (c .release .ensures, c .before .mark-late .ensures, c .before .before .finish .ensures) (ready-pieces (s .args .plan) g (s .args .finished) (s .args .released) (s .args .self) (s .pre .1)))
+
+count-preempted-requires : tie.Need-count-preempted-requires
+count-preempted-requires c κs = let s = c .before .before .before .before in let g = good (c .before .before .before .before .args .plan) (c .before .before .before .before .pre .0) in (g .cores .1, rw (c .before .before .before .finish .ensures) (finish-tasks (s .args .plan) g (s .args .finished) (s .args .self) (s .pre .1)))
+
+age-requires : tie.Need-age-requires
+age-requires c κs = good (c .before .before .before .before .before .args .plan) (c .before .before .before .before .before .pre .0) .count .1
+
+returns : tie.Need-returns
+unfolding nextState
+returns c = simp (c .age .ensures, c .before .count-preempted .ensures, c .before .before .run .ensures, c .before .before .before .release .ensures, c .before .before .before .before .mark-late .ensures, c .before .before .before .before .before .finish .ensures)
+
+pub next-spec : {M : Type 1} → statement M
+next-spec =
+    tie.close
+    (tie.spec
+    finish-requires
+    mark-late-requires
+    release-requires
+    run-requires
+    count-preempted-requires
+    age-requires
+    returns)
