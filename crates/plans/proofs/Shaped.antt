@@ -48,6 +48,14 @@ follows-says a b h = go (one-of {a = eqb (b .task .0) (a .task .0 + 1)} h)
         let v : (sameTask a b && isShare (a .kind) ≡ true) × (isShare (b .kind) ≡ true) = both {a = sameTask a b && isShare (a .kind)} (u .0) in
         inr (sym (eqb-true _ _ (both {a = sameTask a b} (v .0) .0)), ltb-true _ _ (u .1))
 
+-- b is the next task's or the same task's
+pub follows-task : (a b : Piece) → follows a b ≡ true → (b .task .0 ≡ a .task .0 + 1) ⊎ (a .task .0 ≡ b .task .0)
+follows-task a b h = go (follows-says a b h)
+  where
+    go : (b .task .0 ≡ a .task .0 + 1) ⊎ ((b .task .0 ≡ a .task .0) × (a .core .0 < b .core .0)) → (b .task .0 ≡ a .task .0 + 1) ⊎ (a .task .0 ≡ b .task .0)
+    go (inl e) = inl e
+    go (inr e) = inr (sym (e .0))
+
 pub order-next : (pc : ℕ → Piece) (j : ℕ) → 0 < j → inOrder pc j ≡ follows (pc (j - 1)) (pc j)
 unfolding inOrder
 order-next pc zero h = absurd (omega arith)
