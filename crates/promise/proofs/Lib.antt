@@ -1,0 +1,5 @@
+pub mod Potential
+pub mod Room
+pub mod Stage
+pub mod Own
+pub mod Safe
