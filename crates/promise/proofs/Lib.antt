@@ -3,3 +3,4 @@ pub mod Room
 pub mod Stage
 pub mod Own
 pub mod Safe
+pub mod Shape
