@@ -4,3 +4,5 @@ pub mod Stage
 pub mod Own
 pub mod Safe
 pub mod Shape
+pub mod Accepting
+pub mod Choice

@@ -1,0 +1,121 @@
+-- What an accepted plan and an accepted tick have passed.
+use mathlib.Core.Path.{_≡_, refl, sym, ap, _∙_}
+use mathlib.Core.Logic.{⊎-elim}
+use mathlib.Core.Bool.{Bool, true, false, not, _&&_, _||_, cond}
+use Prim.Native.Nat.{ℕ, _≤_, _<_}
+use native.Mathlib.Omega.{arith}
+use lib.Dec.{leb, ltb}
+use borrow.Author.Tests.{leb-true, not-false}
+use Rattle.tasks.proofs.Below.{any-each}
+use Rattle.tasks.proofs.Bools.{both, clash}
+use Rattle.tasks.specs.Below.{any, first}
+use Rattle.tasks.specs.Tables.{taskNo, coresFit, tasksFit, valuesFit, andThen, checkedTasks}
+use Rattle.tasks.specs.declared.Answer.{Answer}
+use Rattle.tasks.specs.declared.Answer.the-variants.{Accepted, Refused}
+use Rattle.tasks.specs.declared.Refusal.{Refusal}
+use Rattle.tasks.specs.declared.Refusal.the-variants.{CoresGiven, TasksGiven, ValuesOf, NoPlanShape, NotWellMade, NotRun, TooSoon, StillActive}
+use Rattle.tasks.specs.declared.Task.{Task}
+use Rattle.tasks.specs.declared.TaskNo.{TaskNo}
+use Rattle.plans.specs.Pieces.{taskOf, pieceOf}
+use Rattle.plans.specs.Shape.{shape, checkedPlan}
+use Rattle.plans.specs.declared.Plan.{Plan}
+use Rattle.dispatch.specs.Refusing.{notRun, tooSoon, stillActive, lowest, judgedSets, judged}
+use Rattle.dispatch.specs.Rules.{finish}
+use Rattle.dispatch.specs.Sets.{member}
+use Rattle.dispatch.specs.WellMade.{wellMade}
+use Rattle.dispatch.specs.declared.State.{State}
+use Rattle.dispatch.specs.declared.Tasks.{Tasks}
+
+-- ---- answers
+pub refused-not : {A : Type 0} {r : Refusal} → Refused r ≡ Accepted → A
+refused-not {r} h = let z : _≡_ {A = ℕ} 0 1 = cc in absurd (omega arith)
+
+then-says : (a c : Answer) → andThen a c ≡ Accepted → (a ≡ Accepted) × (c ≡ Accepted)
+then-says Accepted c h = (refl, h)
+then-says (Refused r) c h = refused-not h
+
+passes : (b : Bool) (r : Refusal) → cond b Accepted (Refused r) ≡ Accepted → b ≡ true
+passes true r h = refl
+passes false r h = refused-not h
+
+escapes : (b : Bool) (r : Refusal) (a : Answer) → cond b (Refused r) a ≡ Accepted → (b ≡ false) × (a ≡ Accepted)
+escapes true r a h = refused-not h
+escapes false r a h = (refl, h)
+
+-- ---- an accepted plan
+pub record Checked (p : Plan) : Type 0 where
+  pub cores : p .cores ≤ 16
+  pub tasks : p .count ≤ 64
+  pub values : (i : ℕ) → i < p .count → (1 ≤ taskOf p i .cost) × (taskOf p i .cost ≤ taskOf p i .deadline) × (taskOf p i .deadline ≤ taskOf p i .period)
+  pub shaped : shape (p .cores) (p .count) (taskOf p) (pieceOf p) (p .placed) ≡ true
+
+values-say : (t : Task) → valuesFit t ≡ true → (1 ≤ t .cost) × (t .cost ≤ t .deadline) × (t .deadline ≤ t .period)
+values-say t h =
+    let u : (leb 1 (t .cost) && leb (t .cost) (t .deadline) && leb (t .deadline) (t .period) ≡ true) × (leb (t .period) 1000000 ≡ true) = both {a = leb 1 (t .cost) && leb (t .cost) (t .deadline) && leb (t .deadline) (t .period)} h in
+    let v : (leb 1 (t .cost) && leb (t .cost) (t .deadline) ≡ true) × (leb (t .deadline) (t .period) ≡ true) = both {a = leb 1 (t .cost) && leb (t .cost) (t .deadline)} (u .0) in
+    let w : (leb 1 (t .cost) ≡ true) × (leb (t .cost) (t .deadline) ≡ true) = both {a = leb 1 (t .cost)} (v .0) in
+    (leb-true _ _ (w .0), leb-true _ _ (w .1), leb-true _ _ (v .1))
+
+pub plan-says : (p : Plan) → checkedPlan p ≡ Accepted → Checked p
+unfolding checkedPlan checkedTasks
+plan-says p h = record {
+  cores = leb-true _ _ (both {a = leb 1 (p .cores)} (not-false _ (c .0)) .1);
+  tasks = leb-true _ _ (both {a = leb 1 (p .count)} (not-false _ (n .0)) .1);
+  values = λ i l. values-say (taskOf p i) (not-false _ (any-each (p .count) bad (v .0) i l));
+  shaped = passes _ NoPlanShape (t .1);
+}
+  where
+    bad : ℕ → Bool
+    bad i = not (valuesFit (taskOf p i))
+
+    wrong : Answer
+    wrong = cond (any (p .count) bad) (Refused (ValuesOf (taskNo (first (p .count) bad)))) Accepted
+
+    t : (checkedTasks (p .cores) (p .count) (taskOf p) ≡ Accepted) × (cond (shape (p .cores) (p .count) (taskOf p) (pieceOf p) (p .placed)) Accepted (Refused NoPlanShape) ≡ Accepted)
+    t = then-says (checkedTasks (p .cores) (p .count) (taskOf p)) _ h
+
+    c : (not (coresFit (p .cores)) ≡ false) × (cond (not (tasksFit (p .count))) (Refused (TasksGiven (p .count))) wrong ≡ Accepted)
+    c = escapes _ (CoresGiven (p .cores)) _ (t .0)
+
+    n : (not (tasksFit (p .count)) ≡ false) × (wrong ≡ Accepted)
+    n = escapes _ (TasksGiven (p .count)) _ (c .1)
+
+    v : (any (p .count) bad ≡ false) × (Accepted ≡ Accepted)
+    v = escapes _ (ValuesOf (taskNo (first (p .count) bad))) Accepted (n .1)
+
+-- ---- an accepted tick
+pub record Passed (p : Plan) (s : State) (fs rs : Tasks) : Type 0 where
+  pub plan : checkedPlan p ≡ Accepted
+  pub made : wellMade p s ≡ true
+  pub ran : (i : ℕ) → i < 256 → member fs i ≡ true → notRun p s i ≡ false
+  pub old : (i : ℕ) → i < 256 → member rs i ≡ true → tooSoon p (finish p fs s) i ≡ false
+  pub over : (i : ℕ) → i < 256 → member rs i ≡ true → stillActive p (finish p fs s) i ≡ false
+
+lowest-says : (u : Tasks) (bad : ℕ → Bool) (say : TaskNo → Refusal) → lowest u bad say ≡ Accepted → (i : ℕ) → i < 256 → member u i ≡ true → bad i ≡ false
+unfolding lowest
+lowest-says u bad say h i l m = rw m at (any-each 256 wrong (escapes _ (say (taskNo (first 256 wrong))) Accepted h .0) i l)
+  where
+    wrong : ℕ → Bool
+    wrong t = member u t && bad t
+
+pub tick-says : (p : Plan) (s : State) (fs rs : Tasks) → judged p s fs rs ≡ Accepted → Passed p s fs rs
+unfolding judged judgedSets
+tick-says p s fs rs h = record {
+  plan = t .0;
+  made = passes _ NotWellMade (w .0);
+  ran = lowest-says fs (notRun p s) NotRun (f .0);
+  old = lowest-says rs (tooSoon p (finish p fs s)) TooSoon (r .0);
+  over = lowest-says rs (stillActive p (finish p fs s)) StillActive (r .1);
+}
+  where
+    t : (checkedPlan p ≡ Accepted) × (andThen (cond (wellMade p s) Accepted (Refused NotWellMade)) (judgedSets p s fs rs) ≡ Accepted)
+    t = then-says (checkedPlan p) _ h
+
+    w : (cond (wellMade p s) Accepted (Refused NotWellMade) ≡ Accepted) × (judgedSets p s fs rs ≡ Accepted)
+    w = then-says (cond (wellMade p s) Accepted (Refused NotWellMade)) _ (t .1)
+
+    f : (lowest fs (notRun p s) NotRun ≡ Accepted) × (andThen (lowest rs (tooSoon p (finish p fs s)) TooSoon) (lowest rs (stillActive p (finish p fs s)) StillActive) ≡ Accepted)
+    f = then-says (lowest fs (notRun p s) NotRun) _ (w .1)
+
+    r : (lowest rs (tooSoon p (finish p fs s)) TooSoon ≡ Accepted) × (lowest rs (stillActive p (finish p fs s)) StillActive ≡ Accepted)
+    r = then-says (lowest rs (tooSoon p (finish p fs s)) TooSoon) _ (f .1)
