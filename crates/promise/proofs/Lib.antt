@@ -6,3 +6,6 @@ pub mod Safe
 pub mod Shape
 pub mod Accepting
 pub mod Choice
+pub mod View
+pub mod Rules
+pub mod Join

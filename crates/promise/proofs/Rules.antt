@@ -1,0 +1,170 @@
+-- The six rules, seen as stages: what each does to the job of a task of the plan.
+use mathlib.Core.Path.{_≡_, refl, sym, ap, _∙_}
+use mathlib.Core.Bool.{Bool, true, false, not, _&&_, _||_, cond}
+use Prim.Native.Nat.{ℕ, suc, _+_, _≤_, _<_, min}
+use native.Mathlib.Numerals.{add-one}
+use native.Mathlib.Omega.{arith}
+use lib.Dec.{leb, ltb, eqb}
+use borrow.Author.Tests.{ltb-true, eqb-true, leb-true}
+use Rattle.tasks.proofs.Below.{all-each}
+use Rattle.tasks.proofs.Bools.{both, clash}
+use Rattle.tasks.proofs.Padded.{padded-in, padded-out}
+use Rattle.tasks.specs.Below.{padded}
+use Rattle.plans.specs.Pieces.{taskOf, pieceOf}
+use Rattle.plans.specs.Shape.{isLast}
+use Rattle.plans.specs.declared.Plan.{Plan}
+use Rattle.dispatch.specs.Jobs.{noJob, noRun, jobOf, lastOf, isActive, onceReleased}
+use Rattle.dispatch.specs.Rules.{eachJob, endedJob, finishedJob, turnsLate, markedJob, firstPiece, releasedJob, runsNow, ranJob, agedJob, chosen, highest, finish, markLate, release, run, age, countPreempted}
+use Rattle.dispatch.specs.Sets.{member}
+use Rattle.dispatch.specs.Tick.{nextState}
+use Rattle.dispatch.specs.WellMade.{ageFits, pieceExists, jobWellMade, wellMade}
+use Rattle.dispatch.specs.declared.Job.{Job}
+use Rattle.dispatch.specs.declared.Phase.{Phase}
+use Rattle.dispatch.specs.declared.Phase.the-variants.{Never, Active, Ended}
+use Rattle.dispatch.specs.declared.Runner.{Runner}
+use Rattle.dispatch.specs.declared.Runner.the-variants.{Idle, Runs}
+use Rattle.dispatch.specs.declared.State.{State}
+use Rattle.dispatch.specs.declared.Tasks.{Tasks}
+use Rattle.promise.specs.Model as model
+use Rattle.promise.proofs.Accepting.{Checked}
+use Rattle.promise.proofs.View.{stageAs, stageOf, modelOf, first-piece}
+
+-- ---- each rule on one job
+pub finished-stage : (fs : Tasks) (i : ℕ) (j : Job) → stageOf (finishedJob fs i j) ≡ cond (member fs i) (model.finish (stageOf j)) (stageOf j)
+unfolding model.finish
+finished-stage fs i j = go (member fs i) (j .phase) refl
+  where
+    go : (b : Bool) (h : Phase) → j .phase ≡ h → stageOf (cond (b && isActive (j .phase)) (endedJob j) j) ≡ cond b (model.finish (stageOf j)) (stageOf j)
+    go false h e = refl
+    go true Never e = rw e
+    go true Active e = rw e
+    go true Ended e = rw e
+
+pub marked-stage : (p : Plan) (i : ℕ) (j : Job) → stageOf (markedJob p i j) ≡ stageOf j
+marked-stage p i j = go (turnsLate p i j)
+  where
+    go : (b : Bool) → stageOf (cond b (record { phase = j .phase; late = true; piece = j .piece; age = j .age; ran = j .ran }) j) ≡ stageOf j
+    go true = refl
+    go false = refl
+
+pub released-stage : (p : Plan) (rs : Tasks) (i : ℕ) (j : Job) → stageOf (releasedJob p rs i j) ≡ cond (member rs i) (model.release (modelOf p) i) (stageOf j)
+unfolding model.release
+released-stage p rs i j = go (member rs i)
+  where
+    go : (b : Bool) → stageOf (cond b (record { phase = Active; late = false; piece = firstPiece p i; age = 0; ran = 0 }) j) ≡ cond b (model.active 0 (firstPiece p i) 0) (stageOf j)
+    go true = refl
+    go false = refl
+
+pub run-stage : (p : Plan) (i : ℕ) (b : Bool) (j : Job) → (b ≡ true → isActive (j .phase) ≡ true) → stageOf (agedJob p i (cond b (ranJob p j) j)) ≡ model.run (modelOf p) i b (stageOf j)
+unfolding model.run model.older model.onward
+run-stage p i false j h = go (j .phase) refl
+  where
+    go : (h : Phase) → j .phase ≡ h → stageOf (agedJob p i j) ≡ model.run (modelOf p) i false (stageOf j)
+    go Never e = rw e
+    go Active e = rw (e, add-one (j .age))
+    go Ended e = rw (e, add-one (j .age))
+run-stage p i true j h = go (j .phase) refl (h refl)
+  where
+    go : (h : Phase) → j .phase ≡ h → isActive (j .phase) ≡ true → stageOf (agedJob p i (ranJob p j)) ≡ model.run (modelOf p) i true (stageOf j)
+    go Never e a = clash a (rw e)
+    go Ended e a = clash a (rw e)
+    go Active e a = rw (e, add-one (j .ran)) (end (ltb (suc (j .ran)) (pieceOf p (j .piece) .cost)) (isLast (pieceOf p) (p .placed) (j .piece)))
+      where
+        end : (part last : Bool) → stageOf (agedJob p i (cond part (record { phase = Active; late = j .late; piece = j .piece; age = j .age; ran = suc (j .ran) }) (cond last (endedJob j) (record { phase = Active; late = j .late; piece = j .piece + 1; age = j .age; ran = 0 })))) ≡ model.onward (modelOf p) part last (min (suc (j .age)) (taskOf p i .period)) (j .piece) (suc (j .ran))
+        end true last = rw (add-one (j .age))
+        end false true = rw (add-one (j .age))
+        end false false = rw (add-one (j .age), add-one (j .piece))
+
+-- ---- an active job of a well made state is at a piece of its task, and not older than the period
+pub record Standing (p : Plan) (i : ℕ) (j : Job) : Type 0 where
+  pub known : j .piece < p .placed
+  pub own : pieceOf p (j .piece) .task .0 ≡ i
+  pub young : j .age ≤ taskOf p i .period
+
+abbrev Stood : Plan → ℕ → Job → Type 0
+Stood p i j = isActive (j .phase) ≡ true → Standing p i j
+
+made-job : (p : Plan) (s : State) (i : ℕ) → wellMade p s ≡ true → i < p .count → Stood p i (jobOf s i)
+unfolding wellMade jobWellMade
+made-job p s i w h = go (jobOf s i) (all-each (p .count) (λ k. jobWellMade p k (jobOf s k)) (both w .0) i h)
+  where
+    go : (j : Job) → jobWellMade p i j ≡ true → Stood p i j
+    go j m a = on (j .phase) refl
+      where
+        says : ageFits p i j && pieceExists p i j ≡ true → Standing p i j
+        says g =
+            let u : (ageFits p i j ≡ true) × (pieceExists p i j ≡ true) = both {a = ageFits p i j} g in
+            let v : (ltb (j .piece) (p .placed) && eqb (pieceOf p (j .piece) .task .0) i ≡ true) × (ltb (j .ran) (pieceOf p (j .piece) .cost) ≡ true) = both {a = ltb (j .piece) (p .placed) && eqb (pieceOf p (j .piece) .task .0) i} (u .1) in
+            let k : (ltb (j .piece) (p .placed) ≡ true) × (eqb (pieceOf p (j .piece) .task .0) i ≡ true) = both {a = ltb (j .piece) (p .placed)} (v .0) in
+            record { known = ltb-true _ _ (k .0); own = eqb-true _ _ (k .1); young = leb-true _ _ (both {a = leb 1 (j .age)} (u .0) .1) }
+
+        on : (h : Phase) → j .phase ≡ h → Standing p i j
+        on Never e = clash a (rw e)
+        on Ended e = clash a (rw e)
+        on Active e = says (rw e at m)
+
+finished-stood : (p : Plan) (fs : Tasks) (i : ℕ) (j : Job) → Stood p i j → Stood p i (finishedJob fs i j)
+finished-stood p fs i j h = go (member fs i && isActive (j .phase))
+  where
+    go : (b : Bool) → Stood p i (cond b (endedJob j) j)
+    go true a = clash refl (sym a)
+    go false a = h a
+
+marked-stood : (p : Plan) (i : ℕ) (j : Job) → Stood p i j → Stood p i (markedJob p i j)
+marked-stood p i j h = go (turnsLate p i j)
+  where
+    go : (b : Bool) → Stood p i (cond b (record { phase = j .phase; late = true; piece = j .piece; age = j .age; ran = j .ran }) j)
+    go true a = let t : Standing p i j = h a in record { known = t .known; own = t .own; young = t .young }
+    go false a = h a
+
+released-stood : (p : Plan) → Checked p → (rs : Tasks) (i : ℕ) (j : Job) → i < p .count → Stood p i j → Stood p i (releasedJob p rs i j)
+released-stood p c rs i j l h = go (member rs i)
+  where
+    go : (b : Bool) → Stood p i (cond b (record { phase = Active; late = false; piece = firstPiece p i; age = 0; ran = 0 }) j)
+    go true a = record { known = first-piece p c i l .0; own = first-piece p c i l .1; young = omega arith }
+    go false a = h a
+
+-- ---- the jobs and cores of the states between the rules
+module _ (p : Plan) (c : Checked p) where
+  each-job : (f : ℕ → Job → Job) (s : State) (i : ℕ) → i < p .count → jobOf (eachJob p f s) i ≡ f i (jobOf s i)
+  unfolding eachJob
+  each-job f s i h = padded-in 64 noJob (p .count) (λ i. f i (jobOf s i)) i h (omega (arith, c .tasks))
+
+  module _ (fs rs : Tasks) (s : State) where
+    -- the state from which the runners are chosen
+    abbrev pub ready : State
+    ready = release p rs (markLate p (finish p fs s))
+
+    pub finish-job : (i : ℕ) → i < p .count → jobOf (finish p fs s) i ≡ finishedJob fs i (jobOf s i)
+    unfolding finish
+    finish-job i h = each-job (finishedJob fs) s i h
+
+    ready-job : (i : ℕ) → i < p .count → jobOf ready i ≡ releasedJob p rs i (markedJob p i (finishedJob fs i (jobOf s i)))
+    unfolding release markLate
+    ready-job i h = each-job (releasedJob p rs) (markLate p (finish p fs s)) i h ∙ ap (releasedJob p rs i) (each-job (markedJob p) (finish p fs s) i h ∙ ap (markedJob p i) (finish-job i h))
+
+    pub finish-stood : (i : ℕ) → wellMade p s ≡ true → i < p .count → Stood p i (jobOf (finish p fs s) i)
+    finish-stood i w h = rw (finish-job i h) (finished-stood p fs i (jobOf s i) (made-job p s i w h))
+
+    pub ready-stood : (i : ℕ) → wellMade p s ≡ true → i < p .count → Stood p i (jobOf ready i)
+    ready-stood i w h = rw (ready-job i h) (released-stood p c rs i _ h (marked-stood p i _ (finished-stood p fs i _ (made-job p s i w h))))
+
+    pub next-job : (i : ℕ) → i < p .count → jobOf (nextState p fs rs s) i ≡ agedJob p i (cond (runsNow p ready i) (ranJob p (jobOf ready i)) (jobOf ready i))
+    unfolding nextState age countPreempted run
+    next-job i h = each-job (agedJob p) _ i h ∙ ap (agedJob p i) (each-job (λ i j. cond (runsNow p ready i) (ranJob p j) j) ready i h)
+
+    pub next-last : (x : ℕ) → x < p .cores → lastOf (nextState p fs rs s) x ≡ highest p ready x (p .count)
+    unfolding nextState age countPreempted run eachJob
+    next-last x h = ap (λ r. r .runner) (padded-in 16 noRun (p .cores) (chosen p ready) x h (omega (arith, c .cores)))
+
+    pub next-idle : (x : ℕ) → p .cores ≤ x → lastOf (nextState p fs rs s) x ≡ Idle
+    unfolding nextState age countPreempted run eachJob
+    next-idle x h = ap (λ r. r .runner) (padded-out 16 noRun (p .cores) (chosen p ready) x h)
+
+    -- rules 1 to 3 as stages
+    pub ready-stage : (i : ℕ) → i < p .count → stageOf (jobOf ready i) ≡ cond (member rs i) (model.release (modelOf p) i) (cond (member fs i) (model.finish (stageOf (jobOf s i))) (stageOf (jobOf s i)))
+    ready-stage i h = ap stageOf (ready-job i h) ∙ released-stage p rs i _ ∙ ap (cond (member rs i) (model.release (modelOf p) i)) (marked-stage p i (finishedJob fs i (jobOf s i)) ∙ finished-stage fs i (jobOf s i))
+
+    -- rules 4 to 6 as stages
+    pub next-stage : (i : ℕ) → i < p .count → stageOf (jobOf (nextState p fs rs s) i) ≡ model.run (modelOf p) i (runsNow p ready i) (stageOf (jobOf ready i))
+    next-stage i h = ap stageOf (next-job i h) ∙ run-stage p i (runsNow p ready i) (jobOf ready i) (λ e. both {a = isActive (jobOf ready i .phase)} e .0)
