@@ -1,20 +1,17 @@
 -- What an accepted plan and an accepted tick have passed.
-use mathlib.Core.Path.{_≡_, refl, sym, ap, _∙_}
-use mathlib.Core.Logic.{⊎-elim}
-use mathlib.Core.Bool.{Bool, true, false, not, _&&_, _||_, cond}
+use mathlib.Core.Path.{_≡_, refl}
+use mathlib.Core.Bool.{Bool, true, false, not, _&&_, cond}
 use Prim.Native.Nat.{ℕ, _≤_, _<_}
 use native.Mathlib.Omega.{arith}
-use lib.Dec.{leb, ltb}
-use borrow.Author.Tests.{leb-true, not-false}
+use borrow.Author.Tests.{not-false}
 use Rattle.tasks.proofs.Below.{any-each}
-use Rattle.tasks.proofs.Bools.{both, clash}
+use Rattle.tasks.proofs.Tables.{Ranges, values-say, counts-say}
 use Rattle.tasks.specs.Below.{any, first}
 use Rattle.tasks.specs.Tables.{taskNo, coresFit, tasksFit, valuesFit, andThen, checkedTasks}
 use Rattle.tasks.specs.declared.Answer.{Answer}
 use Rattle.tasks.specs.declared.Answer.the-variants.{Accepted, Refused}
 use Rattle.tasks.specs.declared.Refusal.{Refusal}
 use Rattle.tasks.specs.declared.Refusal.the-variants.{CoresGiven, TasksGiven, ValuesOf, NoPlanShape, NotWellMade, NotRun, TooSoon, StillActive}
-use Rattle.tasks.specs.declared.Task.{Task}
 use Rattle.tasks.specs.declared.TaskNo.{TaskNo}
 use Rattle.plans.specs.Pieces.{taskOf, pieceOf}
 use Rattle.plans.specs.Shape.{shape, checkedPlan}
@@ -46,21 +43,14 @@ escapes false r a h = (refl, h)
 pub record Checked (p : Plan) : Type 0 where
   pub cores : p .cores ≤ 16
   pub tasks : p .count ≤ 64
-  pub values : (i : ℕ) → i < p .count → (1 ≤ taskOf p i .cost) × (taskOf p i .cost ≤ taskOf p i .deadline) × (taskOf p i .deadline ≤ taskOf p i .period)
+  pub values : (i : ℕ) → i < p .count → Ranges (taskOf p i)
   pub shaped : shape (p .cores) (p .count) (taskOf p) (pieceOf p) (p .placed) ≡ true
-
-values-say : (t : Task) → valuesFit t ≡ true → (1 ≤ t .cost) × (t .cost ≤ t .deadline) × (t .deadline ≤ t .period)
-values-say t h =
-    let u : (leb 1 (t .cost) && leb (t .cost) (t .deadline) && leb (t .deadline) (t .period) ≡ true) × (leb (t .period) 1000000 ≡ true) = both {a = leb 1 (t .cost) && leb (t .cost) (t .deadline) && leb (t .deadline) (t .period)} h in
-    let v : (leb 1 (t .cost) && leb (t .cost) (t .deadline) ≡ true) × (leb (t .deadline) (t .period) ≡ true) = both {a = leb 1 (t .cost) && leb (t .cost) (t .deadline)} (u .0) in
-    let w : (leb 1 (t .cost) ≡ true) × (leb (t .cost) (t .deadline) ≡ true) = both {a = leb 1 (t .cost)} (v .0) in
-    (leb-true _ _ (w .0), leb-true _ _ (w .1), leb-true _ _ (v .1))
 
 pub plan-says : (p : Plan) → checkedPlan p ≡ Accepted → Checked p
 unfolding checkedPlan checkedTasks
 plan-says p h = record {
-  cores = leb-true _ _ (both {a = leb 1 (p .cores)} (not-false _ (c .0)) .1);
-  tasks = leb-true _ _ (both {a = leb 1 (p .count)} (not-false _ (n .0)) .1);
+  cores = counts-say (p .cores) 16 (not-false _ (c .0)) .1;
+  tasks = counts-say (p .count) 64 (not-false _ (n .0)) .1;
   values = λ i l. values-say (taskOf p i) (not-false _ (any-each (p .count) bad (v .0) i l));
   shaped = passes _ NoPlanShape (t .1);
 }

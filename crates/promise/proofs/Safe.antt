@@ -7,7 +7,7 @@ use native.Mathlib.Nat.{le-refl, le-trans}
 use native.Mathlib.Omega.{arith}
 use borrow.Author.Tests.{eqb-true, eq-eqb, not-true}
 use Rattle.tasks.proofs.Below.{any-found, any-each, Found, sum-add, sum-le, sum-member}
-use Rattle.tasks.proofs.Counts.{count-fewer}
+use Rattle.tasks.proofs.Counting.{count-fewer}
 use Rattle.tasks.proofs.Bools.{both, clash}
 use Rattle.tasks.specs.Below.{any, sum, count}
 use Rattle.plans.specs.Interference.{interference}

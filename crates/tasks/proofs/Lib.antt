@@ -4,3 +4,4 @@ pub mod Padded
 pub mod Tables
 pub mod Tabulate
 pub mod Counts
+pub mod Counting
