@@ -9,3 +9,5 @@ pub mod Choice
 pub mod View
 pub mod Rules
 pub mod Join
+pub mod Since
+pub mod Runs

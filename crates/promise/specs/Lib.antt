@@ -1,3 +1,5 @@
 pub mod Model
 pub mod Moments
 pub mod Certificate
+pub mod Requests
+pub mod Demand3

@@ -1,0 +1,109 @@
+-- Lists of requests: what an accepted one keeps, all that follow keep.
+use mathlib.Core.Path.{_≡_, refl, sym, ap, _∙_}
+use mathlib.Core.Logic.{_⊎_, inl, inr}
+use mathlib.Core.Bool.{Bool, true, false, not, _&&_, cond}
+use mathlib.Core.List.{List, [], _∷_, _++_}
+use Prim.Native.Nat.{ℕ, zero, suc, _+_, _≤_, _<_, min}
+use native.Mathlib.Nat.{add-zero}
+use native.Mathlib.Omega.{arith}
+use lib.Dec.{eqb}
+use lib.ListN.{getD, replicate, List·getD-eq-default}
+use borrow.Author.Tests.{ne-eqb}
+use Rattle.tasks.proofs.Below.{any-none, sum-none}
+use Rattle.tasks.proofs.Bools.{both, clash, not-first, not-second}
+use Rattle.tasks.specs.Below.{any, sum, count}
+use Rattle.tasks.specs.declared.Answer.{Answer}
+use Rattle.tasks.specs.declared.Answer.the-variants.{Accepted, Refused}
+use Rattle.tasks.specs.declared.Refusal.{Refusal}
+use Rattle.plans.specs.Pieces.{taskOf, pieceOf}
+use Rattle.plans.specs.declared.Plan.{Plan}
+use Rattle.dispatch.specs.Jobs.{noJob, noRun, jobOf, lastOf, isActive, names, freshState}
+use Rattle.dispatch.specs.Refusing.{judged}
+use Rattle.dispatch.specs.Rules.{eachJob, total, turnsLate, finishedJob, finish, markLate, release, run, age, countPreempted}
+use Rattle.dispatch.specs.Sets.{member}
+use Rattle.dispatch.specs.Tick.{nextState, answered, tick}
+use Rattle.dispatch.specs.declared.CoreRun.{CoreRun}
+use Rattle.dispatch.specs.declared.Job.{Job}
+use Rattle.dispatch.specs.declared.Phase.{Phase}
+use Rattle.dispatch.specs.declared.Phase.the-variants.{Never, Active, Ended}
+use Rattle.dispatch.specs.declared.State.{State}
+use Rattle.dispatch.specs.declared.Tasks.{Tasks}
+use Rattle.dispatch.specs.declared.Ticked.{Ticked}
+use Rattle.promise.specs.Certificate.{Certificate}
+use Rattle.promise.specs.Model.{Stage, never, active, ended, Sound}
+use Rattle.promise.specs.Moments.{Moment, fresh, goes, finished, released, Agree, Step, Reached, start, next}
+use Rattle.promise.specs.Requests.{Request, asked, isAccepted, accepts, after, tally, namedOn, ticks, timesNamed, finishes, releases}
+use Rattle.promise.proofs.Accepting.{Checked, Passed, tick-says}
+use Rattle.promise.proofs.Join.{stages, named-goes, tick-step}
+use Rattle.promise.proofs.Rules.{finish-job, finished-stage}
+use Rattle.promise.proofs.Safe.{inv-reached, in-time, never-late}
+use Rattle.promise.proofs.Since.{one, Why, Since, since-tick, since-release}
+use Rattle.promise.proofs.View.{stageOf, ranLast, momentOf, modelOf, sound, within-cost, full-cost}
+
+-- ---- one request
+-- what holds of the answer to an accepted request and of a refusal holds of what is answered
+pub by-answer : (p : Plan) (s : State) (q : Request) (P : Ticked → Type 0) →
+    (Passed p s (q .finished) (q .released) → P (answered Accepted s (nextState p (q .finished) (q .released) s))) →
+    ((r : Refusal) → P (answered (Refused r) s (nextState p (q .finished) (q .released) s))) → P (asked p s q)
+unfolding tick
+by-answer p s q P good bad = go (judged p s (q .finished) (q .released)) refl
+  where
+    go : (a : Answer) → judged p s (q .finished) (q .released) ≡ a → P (answered a s (nextState p (q .finished) (q .released) s))
+    go Accepted e = good (tick-says p s (q .finished) (q .released) e)
+    go (Refused r) e = bad r
+
+-- ---- lists
+pub after-append : (p : Plan) (s : State) (a b : List Request) → after p s (a ++ b) ≡ after p (after p s a) b
+unfolding after
+after-append p s [] b = refl
+after-append p s (q ∷ a) b = after-append p (asked p s q .state) a b
+
+-- what each accepted tick keeps, a list of requests keeps
+pub after-keeps : (p : Plan) (P : State → Type 0) → ((s : State) (q : Request) → Passed p s (q .finished) (q .released) → P s → P (nextState p (q .finished) (q .released) s)) → (qs : List Request) (s : State) → P s → P (after p s qs)
+unfolding after
+after-keeps p P h [] s v = v
+after-keeps p P h (q ∷ qs) s v = after-keeps p P h qs (asked p s q .state) (by-answer p s q (λ t. P (t .state)) (λ ok. h s q ok v) (λ r. v))
+
+-- ---- the states that requests lead to from the fresh one
+getD-all : {A : Type 0} (n i : ℕ) (a : A) → getD (replicate n a) i a ≡ a
+getD-all zero zero a = refl
+getD-all zero (suc i) a = refl
+getD-all (suc n) zero a = refl
+getD-all (suc n) (suc i) a = getD-all n i a
+
+module _ (p : Plan) (c : Checked p) where
+  fresh-reached : Reached (modelOf p) (momentOf p freshState)
+  unfolding fresh
+  fresh-reached = start (record { stages = λ i h. ap stageOf (getD-all 64 i noJob); runs = λ i h. any-none (p .cores) _ (λ x l. ap (λ (r : CoreRun). names i (r .runner)) (getD-all 16 x noRun)) })
+
+  pub reach : (qs : List Request) → Reached (modelOf p) (momentOf p (after p freshState qs))
+  reach qs = after-keeps p (λ s. Reached (modelOf p) (momentOf p s)) (λ s q ok r. next _ _ r (tick-step p c (q .finished) (q .released) s ok)) qs freshState fresh-reached
+
+  -- ---- a job since its release
+  module _ (limit : ℕ → ℕ) (C : Certificate (modelOf p) limit) (short : (q : ℕ) → q < p .placed → modelOf p .last q ≡ true → modelOf p .off q + limit q ≤ taskOf p (modelOf p .task q) .deadline) where
+    abbrev Grown : (i x f w : ℕ) → State → Type 0
+    Grown i x f w s = Since (modelOf p) (sound p c) (λ i. taskOf p i .cost) (within-cost p c) (full-cost p c) i x f w (stageOf (jobOf s i))
+
+    grown-same : (i : ℕ) {x x′ f f′ w w′ : ℕ} (s : State) → x ≡ x′ → f ≡ f′ → w ≡ w′ → Grown i x f w s → Grown i x′ f′ w′ s
+    grown-same i s a b d v = rw (← a, ← b, ← d) v
+
+    -- one accepted tick more
+    grown-tick : (i x f w : ℕ) → i < p .count → (s : State) (q : Request) → Reached (modelOf p) (momentOf p s) → Passed p s (q .finished) (q .released) → x < taskOf p i .period → Grown i x f w s → Grown i (suc x) (f + one (member (q .finished) i)) (w + one (ranLast p (nextState p (q .finished) (q .released) s) i)) (nextState p (q .finished) (q .released) s)
+    grown-tick i x f w h s q r ok l v =
+        let k : Step (modelOf p) (member (q .finished)) (member (q .released)) (momentOf p s) (momentOf p (nextState p (q .finished) (q .released) s)) = tick-step p c (q .finished) (q .released) s ok in
+        rw (k .agree .stages i h, named-goes p c (q .finished) (q .released) s ok i h) (since-tick (modelOf p) (sound p c) (λ i. taskOf p i .cost) (within-cost p c) (full-cost p c) i h (member (q .finished)) (member (q .released)) (momentOf p s) (k .accepted) (inv-reached (modelOf p) (sound p c) limit C _ r .fit .good i h) x f w l v)
+
+    grown-release : (i : ℕ) → i < p .count → (s : State) (q : Request) → Reached (modelOf p) (momentOf p s) → Passed p s (q .finished) (q .released) → member (q .released) i ≡ true → Grown i 1 0 (0 + one (ranLast p (nextState p (q .finished) (q .released) s) i)) (nextState p (q .finished) (q .released) s)
+    grown-release i h s q r ok m =
+        let k : Step (modelOf p) (member (q .finished)) (member (q .released)) (momentOf p s) (momentOf p (nextState p (q .finished) (q .released) s)) = tick-step p c (q .finished) (q .released) s ok in
+        rw (k .agree .stages i h, named-goes p c (q .finished) (q .released) s ok i h) (since-release (modelOf p) (sound p c) (λ i. taskOf p i .cost) (within-cost p c) (full-cost p c) i h (member (q .finished)) (member (q .released)) (momentOf p s) (k .accepted) (inv-reached (modelOf p) (sound p c) limit C _ r .fit .good i h) (omega (arith, c .values i h)) m)
+
+    -- a list of requests more
+    grown-after : (i : ℕ) → i < p .count → (qs : List Request) (s : State) (x f w : ℕ) → Reached (modelOf p) (momentOf p s) → x + ticks p s qs ≤ taskOf p i .period → Grown i x f w s → Grown i (x + ticks p s qs) (f + finishes i p s qs) (w + timesNamed i p s qs) (after p s qs)
+    unfolding after tally
+    grown-after i h [] s x f w r l v = rw (add-zero x, add-zero f, add-zero w) v
+    grown-after i h (q ∷ qs) s x f w r l v = by-answer p s q
+        (λ t. x + (cond (isAccepted (t .answer) && true) 1 0 + ticks p (t .state) qs) ≤ taskOf p i .period →
+        Grown i (x + (cond (isAccepted (t .answer) && true) 1 0 + ticks p (t .state) qs)) (f + (cond (isAccepted (t .answer) && member (q .finished) i) 1 0 + finishes i p (t .state) qs)) (w + (cond (isAccepted (t .answer) && any (p .cores) (λ y. names i (namedOn t y))) 1 0 + timesNamed i p (t .state) qs)) (after p (t .state) qs))
+        (λ ok l. grown-same i (after p (nextState p (q .finished) (q .released) s) qs) (omega arith) (omega arith) (omega arith) (grown-after i h qs (nextState p (q .finished) (q .released) s) (suc x) (f + one (member (q .finished) i)) (w + one (ranLast p (nextState p (q .finished) (q .released) s) i)) (next _ _ r (tick-step p c (q .finished) (q .released) s ok)) (omega arith) (grown-tick i x f w h s q r ok (omega arith) v)))
+        (λ z l. grown-same i (after p s qs) (omega arith) (omega arith) (omega arith) (grown-after i h qs s x f w r (omega arith) v)) l

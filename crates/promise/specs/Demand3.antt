@@ -1,0 +1,46 @@
+-- Demand 3: what is promised of a plan, for every list of tick requests from the fresh state. Why it holds is in proofs/Demand3.antt.
+use mathlib.Core.Path.{_≡_}
+use mathlib.Core.Logic.{_⊎_}
+use mathlib.Core.Bool.{true}
+use mathlib.Core.List.{List, [], _∷_, _++_}
+use Prim.Native.Nat.{ℕ, _≤_, _<_}
+use Rattle.plans.specs.Pieces.{taskOf}
+use Rattle.plans.specs.declared.Plan.{Plan}
+use Rattle.dispatch.specs.Jobs.{freshState, jobOf, names}
+use Rattle.dispatch.specs.Sets.{member}
+use Rattle.dispatch.specs.declared.Phase.the-variants.{Ended}
+use Rattle.dispatch.specs.declared.State.{State}
+use Rattle.promise.specs.Requests.{Request, asked, accepts, after, namedOn, ticks, timesNamed, finishes, releases}
+
+-- the state of plan p that a list of requests leads to from the fresh one
+abbrev pub reached : Plan → List Request → State
+reached p qs = after p freshState qs
+
+-- No answer names a task on two cores, in any state.
+abbrev pub OneCore : Plan → Type 0
+OneCore p = (s : State) (q : Request) (i x y : ℕ) → names i (namedOn (asked p s q) x) ≡ true → names i (namedOn (asked p s q) y) ≡ true → x ≡ y
+
+-- Within a job, that is until the task is released again, the named core never falls, from any state.
+abbrev pub CoresRise : Plan → Type 0
+CoresRise p = (s : State) (q : Request) (between : List Request) (r : Request) (i x y : ℕ) →
+    names i (namedOn (asked p s q) x) ≡ true → releases i p (asked p s q .state) (between ++ r ∷ []) ≡ 0 →
+    names i (namedOn (asked p (after p (asked p s q .state) between) r) y) ≡ true → x ≤ y
+
+-- After the requests `before`, q is accepted and releases task i; from q on, q counted, as many ticks are accepted as i's deadline says.
+pub record Due (p : Plan) (before : List Request) (q : Request) (later : List Request) (i : ℕ) : Type 0 where
+  pub task : i < p .count
+  pub accepted : accepts p (reached p before) q ≡ true
+  pub released : member (q .released) i ≡ true
+  pub over : ticks p (reached p before) (q ∷ later) ≡ taskOf p i .deadline
+
+pub record Demand3 (p : Plan) : Type 0 where
+  -- then the job has ended
+  pub ends : (before : List Request) (q : Request) (later : List Request) (i : ℕ) → Due p before q later i → jobOf (reached p (before ++ q ∷ later)) i .phase ≡ Ended
+  -- said by what the answers show: in those ticks the task was named in exactly its cost's number of them, or in fewer, and a finish of it was accepted after the release
+  pub shown : (before : List Request) (q : Request) (later : List Request) (i : ℕ) → Due p before q later i →
+      (timesNamed i p (reached p before) (q ∷ later) ≡ taskOf p i .cost)
+      ⊎ ((timesNamed i p (reached p before) (q ∷ later) < taskOf p i .cost) × (1 ≤ finishes i p (reached p (before ++ q ∷ [])) later))
+  -- the late total never rises
+  pub none : (qs : List Request) → reached p qs .late ≡ 0
+  pub oneCore : OneCore p
+  pub rises : CoresRise p
