@@ -33,7 +33,7 @@ use Rattle.promise.specs.Model.{Stage, never, active, ended, at, May}
 use Rattle.promise.specs.Moments.{held, goes, goesAt, finished, released, ticked, tick, Accepted, Agree, Step}
 use Rattle.promise.proofs.Accepting.{Checked, Passed}
 use Rattle.promise.proofs.Choice.{Picked, Picks, picks-named, highest-picks}
-use Rattle.promise.proofs.Rules.{Standing, ready, ready-stood, finish-job, finish-stood, ready-stage, finished-stage, next-stage, next-last}
+use Rattle.promise.proofs.Rules.{Standing, ready, ready-stood, finish-stage, finish-stood, ready-stage, next-stage, next-last}
 use Rattle.promise.proofs.View.{stageAs, stageOf, ranLast, momentOf, modelOf, piece-fits}
 
 -- two tests that pass together are the same
@@ -178,7 +178,7 @@ module _ (p : Plan) (c : Checked p) (fs rs : Tasks) (s : State) (ok : Passed p s
   }
     where
       begun : (i : ℕ) → i < p .count → member rs i ≡ true → May (modelOf p) i (cond (member fs i) (model.finish (stageOf (jobOf s i))) (stageOf (jobOf s i)))
-      begun i h m = rw (← finished-stage fs i (jobOf s i), ← finish-job p c fs rs s i h) (may i (jobOf (finish p fs s) i) (finish-stood p c fs rs s i (ok .made) h) (neither {a = not (ltb i (p .count))} (ok .old i (omega (arith, c .tasks)) m) .1) (ok .over i (omega (arith, c .tasks)) m))
+      begun i h m = rw (← finish-stage p c fs s i h) (may i (jobOf (finish p fs s) i) (finish-stood p c fs s i (ok .made) h) (neither {a = not (ltb i (p .count))} (ok .old i (omega (arith, c .tasks)) m) .1) (ok .over i (omega (arith, c .tasks)) m))
 
   -- the tasks named in the answer are those that ran
   pub named-goes : (i : ℕ) → i < p .count → ranLast p (nextState p fs rs s) i ≡ goes (modelOf p) stages i

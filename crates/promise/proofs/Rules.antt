@@ -30,7 +30,7 @@ use Rattle.promise.proofs.Accepting.{Checked}
 use Rattle.promise.proofs.View.{stageAs, stageOf, modelOf, first-piece}
 
 -- ---- each rule on one job
-pub finished-stage : (fs : Tasks) (i : ℕ) (j : Job) → stageOf (finishedJob fs i j) ≡ cond (member fs i) (model.finish (stageOf j)) (stageOf j)
+finished-stage : (fs : Tasks) (i : ℕ) (j : Job) → stageOf (finishedJob fs i j) ≡ cond (member fs i) (model.finish (stageOf j)) (stageOf j)
 unfolding model.finish
 finished-stage fs i j = go (member fs i) (j .phase) refl
   where
@@ -40,14 +40,14 @@ finished-stage fs i j = go (member fs i) (j .phase) refl
     go true Active e = rw e
     go true Ended e = rw e
 
-pub marked-stage : (p : Plan) (i : ℕ) (j : Job) → stageOf (markedJob p i j) ≡ stageOf j
+marked-stage : (p : Plan) (i : ℕ) (j : Job) → stageOf (markedJob p i j) ≡ stageOf j
 marked-stage p i j = go (turnsLate p i j)
   where
     go : (b : Bool) → stageOf (cond b (record { phase = j .phase; late = true; piece = j .piece; age = j .age; ran = j .ran }) j) ≡ stageOf j
     go true = refl
     go false = refl
 
-pub released-stage : (p : Plan) (rs : Tasks) (i : ℕ) (j : Job) → stageOf (releasedJob p rs i j) ≡ cond (member rs i) (model.release (modelOf p) i) (stageOf j)
+released-stage : (p : Plan) (rs : Tasks) (i : ℕ) (j : Job) → stageOf (releasedJob p rs i j) ≡ cond (member rs i) (model.release (modelOf p) i) (stageOf j)
 unfolding model.release
 released-stage p rs i j = go (member rs i)
   where
@@ -55,7 +55,7 @@ released-stage p rs i j = go (member rs i)
     go true = refl
     go false = refl
 
-pub run-stage : (p : Plan) (i : ℕ) (b : Bool) (j : Job) → (b ≡ true → isActive (j .phase) ≡ true) → stageOf (agedJob p i (cond b (ranJob p j) j)) ≡ model.run (modelOf p) i b (stageOf j)
+run-stage : (p : Plan) (i : ℕ) (b : Bool) (j : Job) → (b ≡ true → isActive (j .phase) ≡ true) → stageOf (agedJob p i (cond b (ranJob p j) j)) ≡ model.run (modelOf p) i b (stageOf j)
 unfolding model.run model.older model.onward
 run-stage p i false j h = go (j .phase) refl
   where
@@ -130,21 +130,25 @@ module _ (p : Plan) (c : Checked p) where
   unfolding eachJob
   each-job f s i h = padded-in 64 noJob (p .count) (λ i. f i (jobOf s i)) i h (omega (arith, c .tasks))
 
+  pub finish-job : (fs : Tasks) (s : State) (i : ℕ) → i < p .count → jobOf (finish p fs s) i ≡ finishedJob fs i (jobOf s i)
+  unfolding finish
+  finish-job fs s i h = each-job (finishedJob fs) s i h
+
+  pub finish-stood : (fs : Tasks) (s : State) (i : ℕ) → wellMade p s ≡ true → i < p .count → Stood p i (jobOf (finish p fs s) i)
+  finish-stood fs s i w h = rw (finish-job fs s i h) (finished-stood p fs i (jobOf s i) (made-job p s i w h))
+
+  -- rule 1 as a stage
+  pub finish-stage : (fs : Tasks) (s : State) (i : ℕ) → i < p .count → stageOf (jobOf (finish p fs s) i) ≡ cond (member fs i) (model.finish (stageOf (jobOf s i))) (stageOf (jobOf s i))
+  finish-stage fs s i h = ap stageOf (finish-job fs s i h) ∙ finished-stage fs i (jobOf s i)
+
   module _ (fs rs : Tasks) (s : State) where
     -- the state from which the runners are chosen
     abbrev pub ready : State
     ready = release p rs (markLate p (finish p fs s))
 
-    pub finish-job : (i : ℕ) → i < p .count → jobOf (finish p fs s) i ≡ finishedJob fs i (jobOf s i)
-    unfolding finish
-    finish-job i h = each-job (finishedJob fs) s i h
-
     ready-job : (i : ℕ) → i < p .count → jobOf ready i ≡ releasedJob p rs i (markedJob p i (finishedJob fs i (jobOf s i)))
     unfolding release markLate
-    ready-job i h = each-job (releasedJob p rs) (markLate p (finish p fs s)) i h ∙ ap (releasedJob p rs i) (each-job (markedJob p) (finish p fs s) i h ∙ ap (markedJob p i) (finish-job i h))
-
-    pub finish-stood : (i : ℕ) → wellMade p s ≡ true → i < p .count → Stood p i (jobOf (finish p fs s) i)
-    finish-stood i w h = rw (finish-job i h) (finished-stood p fs i (jobOf s i) (made-job p s i w h))
+    ready-job i h = each-job (releasedJob p rs) (markLate p (finish p fs s)) i h ∙ ap (releasedJob p rs i) (each-job (markedJob p) (finish p fs s) i h ∙ ap (markedJob p i) (finish-job fs s i h))
 
     pub ready-stood : (i : ℕ) → wellMade p s ≡ true → i < p .count → Stood p i (jobOf ready i)
     ready-stood i w h = rw (ready-job i h) (released-stood p c rs i _ h (marked-stood p i _ (finished-stood p fs i _ (made-job p s i w h))))

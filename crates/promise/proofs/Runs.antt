@@ -30,15 +30,16 @@ use Rattle.dispatch.specs.declared.State.{State}
 use Rattle.dispatch.specs.declared.Tasks.{Tasks}
 use Rattle.dispatch.specs.declared.Ticked.{Ticked}
 use Rattle.promise.specs.Certificate.{Certificate}
+use Rattle.promise.specs.Demand3.{reached, Due}
 use Rattle.promise.specs.Model.{Stage, never, active, ended, Sound}
 use Rattle.promise.specs.Moments.{Moment, fresh, goes, finished, released, Agree, Step, Reached, start, next}
 use Rattle.promise.specs.Requests.{Request, asked, isAccepted, accepts, after, tally, namedOn, ticks, timesNamed, finishes, releases}
 use Rattle.promise.proofs.Accepting.{Checked, Passed, tick-says}
 use Rattle.promise.proofs.Join.{stages, named-goes, tick-step}
-use Rattle.promise.proofs.Rules.{finish-job, finished-stage}
+use Rattle.promise.proofs.Rules.{finish-stage}
 use Rattle.promise.proofs.Safe.{inv-reached, in-time, never-late}
 use Rattle.promise.proofs.Since.{one, Why, Since, since-tick, since-release}
-use Rattle.promise.proofs.View.{stageOf, ranLast, momentOf, modelOf, sound, within-cost, full-cost}
+use Rattle.promise.proofs.View.{stageOf, ranLast, momentOf, modelOf, piece-fits, sound, within-cost, full-cost}
 
 -- ---- one request
 -- what holds of the answer to an accepted request and of a refusal holds of what is answered
@@ -76,8 +77,11 @@ module _ (p : Plan) (c : Checked p) where
   unfolding fresh
   fresh-reached = start (record { stages = λ i h. ap stageOf (getD-all 64 i noJob); runs = λ i h. any-none (p .cores) _ (λ x l. ap (λ (r : CoreRun). names i (r .runner)) (getD-all 16 x noRun)) })
 
-  pub reach : (qs : List Request) → Reached (modelOf p) (momentOf p (after p freshState qs))
-  reach qs = after-keeps p (λ s. Reached (modelOf p) (momentOf p s)) (λ s q ok r. next _ _ r (tick-step p c (q .finished) (q .released) s ok)) qs freshState fresh-reached
+  reach-on : (qs : List Request) (s : State) → Reached (modelOf p) (momentOf p s) → Reached (modelOf p) (momentOf p (after p s qs))
+  reach-on = after-keeps p (λ s. Reached (modelOf p) (momentOf p s)) (λ s q ok r. next _ _ r (tick-step p c (q .finished) (q .released) s ok))
+
+  pub reach : (qs : List Request) → Reached (modelOf p) (momentOf p (reached p qs))
+  reach qs = reach-on qs freshState fresh-reached
 
   -- ---- a job since its release
   module _ (limit : ℕ → ℕ) (C : Certificate (modelOf p) limit) (short : (q : ℕ) → q < p .placed → modelOf p .last q ≡ true → modelOf p .off q + limit q ≤ taskOf p (modelOf p .task q) .deadline) where
@@ -107,3 +111,59 @@ module _ (p : Plan) (c : Checked p) where
         Grown i (x + (cond (isAccepted (t .answer) && true) 1 0 + ticks p (t .state) qs)) (f + (cond (isAccepted (t .answer) && member (q .finished) i) 1 0 + finishes i p (t .state) qs)) (w + (cond (isAccepted (t .answer) && any (p .cores) (λ y. names i (namedOn t y))) 1 0 + timesNamed i p (t .state) qs)) (after p (t .state) qs))
         (λ ok l. grown-same i (after p (nextState p (q .finished) (q .released) s) qs) (omega arith) (omega arith) (omega arith) (grown-after i h qs (nextState p (q .finished) (q .released) s) (suc x) (f + one (member (q .finished) i)) (w + one (ranLast p (nextState p (q .finished) (q .released) s) i)) (next _ _ r (tick-step p c (q .finished) (q .released) s ok)) (omega arith) (grown-tick i x f w h s q r ok (omega arith) v)))
         (λ z l. grown-same i (after p s qs) (omega arith) (omega arith) (omega arith) (grown-after i h qs s x f w r (omega arith) v)) l
+
+    -- a task's pieces fit into its deadline
+    whole : (k : ℕ) → k < p .placed → modelOf p .off k + pieceOf p k .cost ≤ taskOf p (pieceOf p k .task .0) .deadline
+    whole k h = omega (arith, within-cost p c k h, c .values _ (piece-fits p c k h .owned))
+
+    -- a job that is as old as its deadline has ended
+    old-ended : (i f w : ℕ) → i < p .count → (t : State) → Reached (modelOf p) (momentOf p t) → Grown i (taskOf p i .deadline) f w t → (jobOf t i .phase ≡ Ended) × Why (taskOf p i .cost) f w
+    old-ended i f w h t r v = go (jobOf t i .phase) refl
+      where
+        go : (x : Phase) → jobOf t i .phase ≡ x → (jobOf t i .phase ≡ Ended) × Why (taskOf p i .cost) f w
+        go Never e = absurd (rw e at v)
+        go Ended e = let u : (jobOf t i .age ≡ taskOf p i .deadline) × Why (taskOf p i .cost) f w = rw e at v in (e, u .1)
+        go Active e =
+            let u : (jobOf t i .age ≡ taskOf p i .deadline) × (w ≡ modelOf p .off (jobOf t i .piece) + jobOf t i .ran) = rw e at v in
+            absurd (omega (arith, u .0, in-time (modelOf p) (sound p c) limit C (λ i. taskOf p i .deadline) whole short (momentOf p t) r i h (jobOf t i .age) (jobOf t i .piece) (jobOf t i .ran) (rw e)))
+
+    pub due-over : (before : List Request) (q : Request) (later : List Request) (i : ℕ) → Due p before q later i →
+        (jobOf (after p (reached p before) (q ∷ later)) i .phase ≡ Ended) × Why (taskOf p i .cost) (finishes i p (asked p (reached p before) q .state) later) (timesNamed i p (reached p before) (q ∷ later))
+    unfolding after tally
+    due-over before q later i d = by-answer p s q
+        (λ t. isAccepted (t .answer) ≡ true → cond (isAccepted (t .answer) && true) 1 0 + ticks p (t .state) later ≡ taskOf p i .deadline →
+        (jobOf (after p (t .state) later) i .phase ≡ Ended) × Why (taskOf p i .cost) (finishes i p (t .state) later) (cond (isAccepted (t .answer) && any (p .cores) (λ y. names i (namedOn t y))) 1 0 + timesNamed i p (t .state) later))
+        yield
+        (λ z a. clash refl (sym a)) (d .accepted) (d .over)
+      where
+        s : State
+        s = reached p before
+
+        n : State
+        n = nextState p (q .finished) (q .released) s
+
+        yield : Passed p s (q .finished) (q .released) → true ≡ true → 1 + ticks p n later ≡ taskOf p i .deadline → (jobOf (after p n later) i .phase ≡ Ended) × Why (taskOf p i .cost) (finishes i p n later) (one (ranLast p n i) + timesNamed i p n later)
+        yield ok a e =
+            let r : Reached (modelOf p) (momentOf p n) = next _ _ (reach before) (tick-step p c (q .finished) (q .released) s ok) in
+            old-ended i _ _ (d .task) (after p n later) (reach-on later n r) (grown-same i (after p n later) e (omega arith) (omega arith) (grown-after i (d .task) later n 1 0 (0 + one (ranLast p n i)) r (omega (arith, e, c .values i (d .task))) (grown-release i (d .task) s q (reach before) ok (d .released))))
+
+    -- ---- rule 2 marks no job
+    none-turns : (s : State) (fs : Tasks) → Reached (modelOf p) (momentOf p s) → (i : ℕ) → i < p .count → turnsLate p i (jobOf (finish p fs s) i) ≡ false
+    unfolding finished
+    none-turns s fs r i h = go (jobOf (finish p fs s) i .phase) refl
+      where
+        go : (x : Phase) → jobOf (finish p fs s) i .phase ≡ x → turnsLate p i (jobOf (finish p fs s) i) ≡ false
+        go Never e = rw e
+        go Ended e = rw e
+        go Active e = rw e (not-first _ (ne-eqb (jobOf (finish p fs s) i .age) (taskOf p i .deadline) (λ q. omega (arith, young))))
+          where
+            young : jobOf (finish p fs s) i .age < taskOf p i .deadline
+            young = never-late (modelOf p) (sound p c) limit C (λ i. taskOf p i .deadline) whole short (momentOf p s) r (member fs) i h (jobOf (finish p fs s) i .age) (jobOf (finish p fs s) i .piece) (jobOf (finish p fs s) i .ran) (sym (finish-stage p c fs s i h) ∙ rw e)
+
+    late-same : (s : State) (q : Request) → Reached (modelOf p) (momentOf p s) → nextState p (q .finished) (q .released) s .late ≡ total (s .late) 0
+    unfolding nextState age countPreempted run release markLate finish eachJob count
+    late-same s q r = ap (total (s .late)) (sum-none (p .count) _ (λ i h. ap one (none-turns s (q .finished) r i h)))
+
+    pub none-late : (qs : List Request) → reached p qs .late ≡ 0
+    none-late qs = after-keeps p (λ s. Reached (modelOf p) (momentOf p s) × (s .late ≡ 0))
+        (λ s q ok v. (next _ _ (v .0) (tick-step p c (q .finished) (q .released) s ok), late-same s q (v .0) ∙ ap (λ (l : ℕ). total l 0) (v .1))) qs freshState (fresh-reached, refl) .1
