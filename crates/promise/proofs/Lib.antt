@@ -11,3 +11,5 @@ pub mod Rules
 pub mod Join
 pub mod Since
 pub mod Runs
+pub mod Cores
+pub mod Demand3

@@ -66,7 +66,7 @@ after-keeps p P h [] s v = v
 after-keeps p P h (q ∷ qs) s v = after-keeps p P h qs (asked p s q .state) (by-answer p s q (λ t. P (t .state)) (λ ok. h s q ok v) (λ r. v))
 
 -- ---- the states that requests lead to from the fresh one
-getD-all : {A : Type 0} (n i : ℕ) (a : A) → getD (replicate n a) i a ≡ a
+pub getD-all : {A : Type 0} (n i : ℕ) (a : A) → getD (replicate n a) i a ≡ a
 getD-all zero zero a = refl
 getD-all zero (suc i) a = refl
 getD-all (suc n) zero a = refl

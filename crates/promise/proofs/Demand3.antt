@@ -1,0 +1,48 @@
+-- Demand 3 for every plan of good shape that has the certificate. What `Demand3` says is in specs/Demand3.antt.
+use mathlib.Core.Path.{_≡_, refl, sym, ap, _∙_}
+use mathlib.Core.Bool.{true}
+use mathlib.Core.List.{List, [], _∷_, _++_}
+use Prim.Native.Nat.{ℕ, _+_, _≤_, _<_}
+use native.Mathlib.Omega.{arith}
+use Rattle.tasks.specs.declared.Answer.the-variants.{Accepted}
+use Rattle.plans.proofs.Rank.{above-self, above-chain}
+use Rattle.plans.specs.Bound.{localDeadline, load, bound}
+use Rattle.plans.specs.Certificate.{Certified}
+use Rattle.plans.specs.Pieces.{taskOf, pieceOf}
+use Rattle.plans.specs.Shape.{checkedPlan}
+use Rattle.plans.specs.declared.Plan.{Plan}
+use Rattle.dispatch.specs.Jobs.{freshState, jobOf}
+use Rattle.dispatch.specs.declared.Phase.the-variants.{Ended}
+use Rattle.promise.specs.Certificate.{Certificate}
+use Rattle.promise.specs.Demand3.{Demand3, Due, reached}
+use Rattle.promise.specs.Requests.{Request, after, finishes, timesNamed}
+use Rattle.promise.proofs.Accepting.{Checked, plan-says}
+use Rattle.promise.proofs.Cores.{one-core, cores-rise}
+use Rattle.promise.proofs.Runs.{after-append, due-over, none-late}
+use Rattle.promise.proofs.Since.{Why}
+use Rattle.promise.proofs.View.{modelOf, piece-fits, within-cost}
+
+module _ (p : Plan) (good : checkedPlan p ≡ Accepted) where
+  -- any limits that are certified and within the deadlines
+  pub by-limits : (limit : ℕ → ℕ) → Certificate (modelOf p) limit → ((q : ℕ) → q < p .placed → modelOf p .last q ≡ true → modelOf p .off q + limit q ≤ taskOf p (modelOf p .task q) .deadline) → Demand3 p
+  unfolding after
+  by-limits limit C short = record {
+    ends = λ before q later i d. rw (after-append p freshState before (q ∷ later)) (due-over p checked limit C short before q later i d .0);
+    shown = λ before q later i d. rw (after-append p freshState before (q ∷ [])) (due-over p checked limit C short before q later i d .1);
+    none = none-late p checked limit C short;
+    oneCore = one-core p;
+    rises = cores-rise p;
+  }
+    where
+      checked : Checked p
+      checked = plan-says p good
+
+  -- document 01's certificate: the limits are the local deadlines
+  pub demand-3 : Certified (taskOf p) (pieceOf p) (p .placed) → Demand3 p
+  unfolding localDeadline bound load
+  demand-3 C = by-limits (localDeadline (taskOf p) (pieceOf p))
+      (record { strict = λ j. above-self (taskOf p) (pieceOf p j); chain = λ i j k. above-chain (taskOf p) (pieceOf p i) (pieceOf p j) (pieceOf p k); top = C .top; bound = C .within })
+      (λ q h z. omega (arith, within-cost p checked q h, checked .values _ (piece-fits p checked q h .owned)))
+    where
+      checked : Checked p
+      checked = plan-says p good
