@@ -1,8 +1,8 @@
 -- Rule 4's choice: of the active jobs at a piece on a core, the one that no other is ranked above.
-use mathlib.Core.Path.{_≡_, refl, sym, ap, _∙_}
+use mathlib.Core.Path.{_≡_, refl, sym, _∙_}
 use mathlib.Core.Logic.{_⊎_, inl, inr}
 use mathlib.Core.Bool.{Bool, true, false, _&&_, cond}
-use Prim.Native.Nat.{ℕ, zero, suc, _+_, _≤_, _<_}
+use Prim.Native.Nat.{ℕ, zero, suc, _≤_, _<_}
 use native.Mathlib.Decide.{ℕ-discrete}
 use native.Mathlib.Omega.{arith}
 use lib.Dec.{eqb}
@@ -10,7 +10,7 @@ use borrow.Author.Tests.{eqb-true}
 use Rattle.tasks.proofs.Bools.{both, clash}
 use Rattle.tasks.specs.Tables.{taskNo}
 use Rattle.plans.proofs.Rank.{above-chain, above-total}
-use Rattle.plans.specs.Pieces.{taskOf, pieceOf}
+use Rattle.plans.specs.Pieces.{taskOf}
 use Rattle.plans.specs.Rank.{above}
 use Rattle.plans.specs.declared.Plan.{Plan}
 use Rattle.dispatch.specs.Jobs.{jobOf, isActive, names}

@@ -2,18 +2,16 @@
 use mathlib.Core.Path.{_≡_, refl, sym, ap, _∙_}
 use mathlib.Core.Bool.{Bool, true, false, _&&_, cond}
 use mathlib.Core.List.{List, [], _∷_, _++_}
-use Prim.Native.Nat.{ℕ, zero, suc, _+_, _≤_, _<_, min}
+use Prim.Native.Nat.{ℕ, suc, _+_, _≤_, _<_, min}
 use native.Mathlib.Decide.{decLt}
-use native.Mathlib.Nat.{le-refl, le-trans}
 use native.Mathlib.Omega.{arith}
 use lib.Dec.{ltb}
 use lib.ListN.{getD, replicate}
 use Rattle.tasks.proofs.Bools.{clash}
-use Rattle.tasks.specs.declared.Refusal.{Refusal}
 use Rattle.plans.specs.Pieces.{pieceOf}
 use Rattle.plans.specs.declared.Plan.{Plan}
 use Rattle.dispatch.specs.Jobs.{noRun, jobOf, lastOf, isActive, names}
-use Rattle.dispatch.specs.Rules.{pieceAt, runsNow}
+use Rattle.dispatch.specs.Rules.{pieceAt}
 use Rattle.dispatch.specs.Sets.{member}
 use Rattle.dispatch.specs.Tick.{nextState}
 use Rattle.dispatch.specs.declared.CoreRun.{CoreRun}
@@ -21,15 +19,15 @@ use Rattle.dispatch.specs.declared.Job.{Job}
 use Rattle.dispatch.specs.declared.Phase.{Phase}
 use Rattle.dispatch.specs.declared.Phase.the-variants.{Never, Active, Ended}
 use Rattle.dispatch.specs.declared.State.{State}
-use Rattle.dispatch.specs.declared.Tasks.{Tasks}
 use Rattle.promise.specs.Demand3.{OneCore, CoresRise}
-use Rattle.promise.specs.Model.{Stage, never, active, ended, older, onward, finish, release, run}
+use Rattle.promise.specs.Model.{Stage, never, active, ended, older, onward, finish, run}
 use Rattle.promise.specs.Requests.{Request, asked, isAccepted, after, tally, namedOn, releases}
 use Rattle.promise.proofs.Accepting.{Checked, Passed, plan-says}
 use Rattle.promise.proofs.Join.{stood, named-stands}
 use Rattle.promise.proofs.Rules.{ready, ready-stage, next-stage, next-last, next-idle}
 use Rattle.promise.proofs.Runs.{by-answer, getD-all}
-use Rattle.promise.proofs.View.{stageOf, modelOf, next-piece}
+use Rattle.promise.specs.View.{stageOf, modelOf}
+use Rattle.promise.proofs.Sound.{next-piece}
 
 -- nothing is named in a refusal
 refused-names : {A : Type 0} (i x : ℕ) → names i (getD (replicate 16 noRun) x noRun .runner) ≡ true → A

@@ -1,7 +1,7 @@
 -- Demand 3 for every plan of good shape that has the certificate. What `Demand3` says is in specs/Demand3.antt.
-use mathlib.Core.Path.{_≡_, refl, sym, ap, _∙_}
+use mathlib.Core.Path.{_≡_}
 use mathlib.Core.Bool.{true}
-use mathlib.Core.List.{List, [], _∷_, _++_}
+use mathlib.Core.List.{[], _∷_}
 use Prim.Native.Nat.{ℕ, _+_, _≤_, _<_}
 use native.Mathlib.Omega.{arith}
 use Rattle.tasks.specs.declared.Answer.the-variants.{Accepted}
@@ -11,16 +11,15 @@ use Rattle.plans.specs.Certificate.{Certified}
 use Rattle.plans.specs.Pieces.{taskOf, pieceOf}
 use Rattle.plans.specs.Shape.{checkedPlan}
 use Rattle.plans.specs.declared.Plan.{Plan}
-use Rattle.dispatch.specs.Jobs.{freshState, jobOf}
-use Rattle.dispatch.specs.declared.Phase.the-variants.{Ended}
+use Rattle.dispatch.specs.Jobs.{freshState}
 use Rattle.promise.specs.Certificate.{Certificate}
-use Rattle.promise.specs.Demand3.{Demand3, Due, reached}
-use Rattle.promise.specs.Requests.{Request, after, finishes, timesNamed}
+use Rattle.promise.specs.Demand3.{Demand3}
+use Rattle.promise.specs.Requests.{after}
 use Rattle.promise.proofs.Accepting.{Checked, plan-says}
 use Rattle.promise.proofs.Cores.{one-core, cores-rise}
 use Rattle.promise.proofs.Runs.{after-append, due-over, none-late}
-use Rattle.promise.proofs.Since.{Why}
-use Rattle.promise.proofs.View.{modelOf, piece-fits, within-cost}
+use Rattle.promise.specs.View.{modelOf}
+use Rattle.promise.proofs.Sound.{piece-fits, within-cost}
 
 module _ (p : Plan) (good : checkedPlan p ≡ Accepted) where
   -- any limits that are certified and within the deadlines

@@ -1,13 +1,12 @@
 -- An accepted tick of the dispatcher is an accepted tick as the promise sees it.
 use mathlib.Core.Path.{_≡_, refl, sym, ap, subst, _∙_}
-use mathlib.Core.Logic.{_⊎_, inl, inr}
-use mathlib.Core.Bool.{Bool, true, false, not, _&&_, _||_, cond}
-use Prim.Native.Nat.{ℕ, suc, _+_, _≤_, _<_}
+use mathlib.Core.Bool.{Bool, true, false, not, _&&_, cond}
+use Prim.Native.Nat.{ℕ, _≤_, _<_}
 use native.Mathlib.Decide.{ℕ-discrete}
 use native.Mathlib.Nat.{le-refl}
 use native.Mathlib.Omega.{arith}
 use lib.Dec.{ltb, eqb}
-use borrow.Author.Tests.{eq-eqb, ne-eqb, eqb-true, eqb-false, ltb-false, not-false, not-true}
+use borrow.Author.Tests.{eq-eqb, ne-eqb, eqb-true, eqb-false, ltb-false, not-false}
 use Rattle.tasks.proofs.Below.{any-found, any-make, any-none, any-same, Found}
 use Rattle.tasks.proofs.Bools.{both, both-make, clash, neither}
 use Rattle.tasks.specs.Below.{any}
@@ -16,8 +15,7 @@ use Rattle.plans.specs.Pieces.{taskOf, pieceOf}
 use Rattle.plans.specs.Rank.{above}
 use Rattle.plans.specs.declared.Piece.{Piece}
 use Rattle.plans.specs.declared.Plan.{Plan}
-use Rattle.dispatch.specs.Jobs.{jobOf, lastOf, isActive, onceReleased, names}
-use Rattle.dispatch.specs.Refusing.{notRun, tooSoon, stillActive}
+use Rattle.dispatch.specs.Jobs.{jobOf, isActive, onceReleased, names}
 use Rattle.dispatch.specs.Rules.{pieceAt, standsOn, highest, runsNow, finish}
 use Rattle.dispatch.specs.Sets.{member}
 use Rattle.dispatch.specs.Tick.{nextState}
@@ -29,12 +27,13 @@ use Rattle.dispatch.specs.declared.Runner.the-variants.{Idle, Runs}
 use Rattle.dispatch.specs.declared.State.{State}
 use Rattle.dispatch.specs.declared.Tasks.{Tasks}
 use Rattle.promise.specs.Model as model
-use Rattle.promise.specs.Model.{Stage, never, active, ended, at, May}
-use Rattle.promise.specs.Moments.{held, goes, goesAt, finished, released, ticked, tick, Accepted, Agree, Step}
+use Rattle.promise.specs.Model.{Stage, ended, at, May}
+use Rattle.promise.specs.Moments.{held, goes, goesAt, finished, released, ticked, tick, Accepted, Step}
 use Rattle.promise.proofs.Accepting.{Checked, Passed}
 use Rattle.promise.proofs.Choice.{Picked, Picks, picks-named, highest-picks}
 use Rattle.promise.proofs.Rules.{Standing, ready, ready-stood, finish-stage, finish-stood, ready-stage, next-stage, next-last}
-use Rattle.promise.proofs.View.{stageAs, stageOf, ranLast, momentOf, modelOf, piece-fits}
+use Rattle.promise.specs.View.{stageOf, ranLast, momentOf, modelOf}
+use Rattle.promise.proofs.Sound.{piece-fits}
 
 -- two tests that pass together are the same
 same-test : (a b : Bool) → (a ≡ true → b ≡ true) → (b ≡ true → a ≡ true) → a ≡ b

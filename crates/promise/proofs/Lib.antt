@@ -6,7 +6,7 @@ pub mod Safe
 pub mod Shape
 pub mod Accepting
 pub mod Choice
-pub mod View
+pub mod Sound
 pub mod Rules
 pub mod Join
 pub mod Since

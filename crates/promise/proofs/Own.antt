@@ -2,7 +2,7 @@
 use mathlib.Core.Path.{_≡_, refl, sym, ap, _∙_}
 use mathlib.Core.Logic.{_⊎_, inl, inr}
 use mathlib.Core.Bool.{Bool, true, false, cond}
-use Prim.Native.Nat.{ℕ, zero, suc, _+_, _-_, _≤_, _<_, min}
+use Prim.Native.Nat.{ℕ, suc, _+_, _-_, _≤_, _<_}
 use native.Mathlib.Decide.{ℕ-discrete}
 use native.Mathlib.Nat.{le-refl}
 use native.Mathlib.Omega.{arith}
@@ -10,7 +10,7 @@ use lib.Dec.{ltb, eqb}
 use borrow.Author.Tests.{eq-eqb, ne-eqb, eqb-true, ltb-false}
 use Rattle.tasks.proofs.Bools.{clash}
 use Rattle.promise.specs.Model.{Stage, never, active, ended, Model, Sound, at, older, onward, run, release}
-use Rattle.promise.proofs.Stage.{Good, Steady}
+use Rattle.promise.proofs.Stage.{Good}
 
 module _ (M : Model) (q : ℕ) where
   unfoldable pub need : Stage → ℕ

@@ -1,6 +1,6 @@
 -- How much a piece can still run: `due` ticks of the job that is at it, and after `wait` ticks what new jobs bring.
-use mathlib.Core.Path.{_≡_, refl, sym, ap, _∙_}
-use Prim.Native.Nat.{ℕ, zero, suc, _+_, _-_, _≤_, _<_, min}
+use mathlib.Core.Path.{_≡_, ap, _∙_}
+use Prim.Native.Nat.{ℕ, suc, _+_, _-_, _≤_, _<_, min}
 use native.Mathlib.Decide.{decLe}
 use native.Mathlib.Nat.{sub-zero}
 use native.Mathlib.Omega.{arith}

@@ -1,6 +1,6 @@
 -- The six rules, seen as stages: what each does to the job of a task of the plan.
 use mathlib.Core.Path.{_≡_, refl, sym, ap, _∙_}
-use mathlib.Core.Bool.{Bool, true, false, not, _&&_, _||_, cond}
+use mathlib.Core.Bool.{Bool, true, false, _&&_, cond}
 use Prim.Native.Nat.{ℕ, suc, _+_, _≤_, _<_, min}
 use native.Mathlib.Numerals.{add-one}
 use native.Mathlib.Omega.{arith}
@@ -9,11 +9,10 @@ use borrow.Author.Tests.{ltb-true, eqb-true, leb-true}
 use Rattle.tasks.proofs.Below.{all-each}
 use Rattle.tasks.proofs.Bools.{both, clash}
 use Rattle.tasks.proofs.Padded.{padded-in, padded-out}
-use Rattle.tasks.specs.Below.{padded}
 use Rattle.plans.specs.Pieces.{taskOf, pieceOf}
 use Rattle.plans.specs.Shape.{isLast}
 use Rattle.plans.specs.declared.Plan.{Plan}
-use Rattle.dispatch.specs.Jobs.{noJob, noRun, jobOf, lastOf, isActive, onceReleased}
+use Rattle.dispatch.specs.Jobs.{noJob, noRun, jobOf, lastOf, isActive}
 use Rattle.dispatch.specs.Rules.{eachJob, endedJob, finishedJob, turnsLate, markedJob, firstPiece, releasedJob, runsNow, ranJob, agedJob, chosen, highest, finish, markLate, release, run, age, countPreempted}
 use Rattle.dispatch.specs.Sets.{member}
 use Rattle.dispatch.specs.Tick.{nextState}
@@ -21,13 +20,13 @@ use Rattle.dispatch.specs.WellMade.{ageFits, pieceExists, jobWellMade, wellMade
 use Rattle.dispatch.specs.declared.Job.{Job}
 use Rattle.dispatch.specs.declared.Phase.{Phase}
 use Rattle.dispatch.specs.declared.Phase.the-variants.{Never, Active, Ended}
-use Rattle.dispatch.specs.declared.Runner.{Runner}
-use Rattle.dispatch.specs.declared.Runner.the-variants.{Idle, Runs}
+use Rattle.dispatch.specs.declared.Runner.the-variants.{Idle}
 use Rattle.dispatch.specs.declared.State.{State}
 use Rattle.dispatch.specs.declared.Tasks.{Tasks}
 use Rattle.promise.specs.Model as model
 use Rattle.promise.proofs.Accepting.{Checked}
-use Rattle.promise.proofs.View.{stageAs, stageOf, modelOf, first-piece}
+use Rattle.promise.specs.View.{stageOf, modelOf}
+use Rattle.promise.proofs.Sound.{first-piece}
 
 -- ---- each rule on one job
 finished-stage : (fs : Tasks) (i : ℕ) (j : Job) → stageOf (finishedJob fs i j) ≡ cond (member fs i) (model.finish (stageOf j)) (stageOf j)

@@ -1,29 +1,26 @@
 -- Lists of requests: what an accepted one keeps, all that follow keep.
 use mathlib.Core.Path.{_≡_, refl, sym, ap, _∙_}
-use mathlib.Core.Logic.{_⊎_, inl, inr}
-use mathlib.Core.Bool.{Bool, true, false, not, _&&_, cond}
+use mathlib.Core.Bool.{true, false, _&&_, cond}
 use mathlib.Core.List.{List, [], _∷_, _++_}
-use Prim.Native.Nat.{ℕ, zero, suc, _+_, _≤_, _<_, min}
+use Prim.Native.Nat.{ℕ, zero, suc, _+_, _≤_, _<_}
 use native.Mathlib.Nat.{add-zero}
 use native.Mathlib.Omega.{arith}
-use lib.Dec.{eqb}
-use lib.ListN.{getD, replicate, List·getD-eq-default}
+use lib.ListN.{getD, replicate}
 use borrow.Author.Tests.{ne-eqb}
 use Rattle.tasks.proofs.Below.{any-none, sum-none}
-use Rattle.tasks.proofs.Bools.{both, clash, not-first, not-second}
-use Rattle.tasks.specs.Below.{any, sum, count}
+use Rattle.tasks.proofs.Bools.{clash, not-first}
+use Rattle.tasks.specs.Below.{any, count}
 use Rattle.tasks.specs.declared.Answer.{Answer}
 use Rattle.tasks.specs.declared.Answer.the-variants.{Accepted, Refused}
 use Rattle.tasks.specs.declared.Refusal.{Refusal}
 use Rattle.plans.specs.Pieces.{taskOf, pieceOf}
 use Rattle.plans.specs.declared.Plan.{Plan}
-use Rattle.dispatch.specs.Jobs.{noJob, noRun, jobOf, lastOf, isActive, names, freshState}
+use Rattle.dispatch.specs.Jobs.{noJob, noRun, jobOf, names, freshState}
 use Rattle.dispatch.specs.Refusing.{judged}
-use Rattle.dispatch.specs.Rules.{eachJob, total, turnsLate, finishedJob, finish, markLate, release, run, age, countPreempted}
+use Rattle.dispatch.specs.Rules.{eachJob, total, turnsLate, finish, markLate, release, run, age, countPreempted}
 use Rattle.dispatch.specs.Sets.{member}
 use Rattle.dispatch.specs.Tick.{nextState, answered, tick}
 use Rattle.dispatch.specs.declared.CoreRun.{CoreRun}
-use Rattle.dispatch.specs.declared.Job.{Job}
 use Rattle.dispatch.specs.declared.Phase.{Phase}
 use Rattle.dispatch.specs.declared.Phase.the-variants.{Never, Active, Ended}
 use Rattle.dispatch.specs.declared.State.{State}
@@ -31,15 +28,15 @@ use Rattle.dispatch.specs.declared.Tasks.{Tasks}
 use Rattle.dispatch.specs.declared.Ticked.{Ticked}
 use Rattle.promise.specs.Certificate.{Certificate}
 use Rattle.promise.specs.Demand3.{reached, Due}
-use Rattle.promise.specs.Model.{Stage, never, active, ended, Sound}
-use Rattle.promise.specs.Moments.{Moment, fresh, goes, finished, released, Agree, Step, Reached, start, next}
-use Rattle.promise.specs.Requests.{Request, asked, isAccepted, accepts, after, tally, namedOn, ticks, timesNamed, finishes, releases}
+use Rattle.promise.specs.Moments.{fresh, finished, released, Step, Reached, start, next}
+use Rattle.promise.specs.Requests.{Request, asked, isAccepted, after, tally, namedOn, ticks, timesNamed, finishes}
 use Rattle.promise.proofs.Accepting.{Checked, Passed, tick-says}
 use Rattle.promise.proofs.Join.{stages, named-goes, tick-step}
 use Rattle.promise.proofs.Rules.{finish-stage}
 use Rattle.promise.proofs.Safe.{inv-reached, in-time, never-late}
 use Rattle.promise.proofs.Since.{one, Why, Since, since-tick, since-release}
-use Rattle.promise.proofs.View.{stageOf, ranLast, momentOf, modelOf, piece-fits, sound, within-cost, full-cost}
+use Rattle.promise.specs.View.{stageOf, ranLast, momentOf, modelOf}
+use Rattle.promise.proofs.Sound.{piece-fits, sound, within-cost, full-cost}
 
 -- ---- one request
 -- what holds of the answer to an accepted request and of a refusal holds of what is answered

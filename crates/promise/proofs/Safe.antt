@@ -9,11 +9,11 @@ use borrow.Author.Tests.{eqb-true, eq-eqb, not-true}
 use Rattle.tasks.proofs.Below.{any-found, any-each, Found, sum-add, sum-le, sum-member}
 use Rattle.tasks.proofs.Counting.{count-fewer}
 use Rattle.tasks.proofs.Bools.{both, clash}
-use Rattle.tasks.specs.Below.{any, sum, count}
+use Rattle.tasks.specs.Below.{sum, count}
 use Rattle.plans.specs.Interference.{interference}
 use Rattle.promise.specs.Certificate.{Certificate}
 use Rattle.promise.specs.Model.{Stage, never, active, ended, Model, Sound, at, finish, release, run, May}
-use Rattle.promise.specs.Moments.{Moment, fresh, held, goes, goesAt, finished, released, ticked, tick, Accepted, Agree, Step, Reached, start, next}
+use Rattle.promise.specs.Moments.{Moment, fresh, held, goes, goesAt, finished, released, ticked, tick, Accepted, Agree, Reached, start, next}
 use Rattle.promise.proofs.Room.{Room, room-full, room-less, room-tick, room-time}
 use Rattle.promise.proofs.Own.{need, gone, New, new-away, new-release, own-away, own-stop, own-run, need-pos}
 use Rattle.promise.proofs.Stage.{Good, Steady, hit, can, can-tick, can-quiet, can-never, can-finish, can-release, good-finish, good-release, good-run, Must}

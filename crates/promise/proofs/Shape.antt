@@ -1,15 +1,15 @@
 -- What the plan shape says: every task has pieces in a row, on rising cores, from a first to a last, and their costs add up to its cost.
-use mathlib.Core.Path.{_≡_, refl, sym, ap, _∙_}
+use mathlib.Core.Path.{_≡_, refl, sym}
 use mathlib.Core.Logic.{_⊎_, inl, inr}
-use mathlib.Core.Bool.{Bool, true, false, not, _&&_, _||_, cond}
+use mathlib.Core.Bool.{Bool, true, false, not, _&&_, _||_}
 use Prim.Native.Nat.{ℕ, zero, suc, _+_, _-_, _≤_, _<_}
 use native.Mathlib.Decide.{decLe}
 use native.Mathlib.Nat.{le-trans}
 use native.Mathlib.Omega.{arith}
 use lib.Dec.{leb, ltb, eqb}
-use borrow.Author.Tests.{eq-eqb, ne-eqb, eqb-true, ltb-true, leb-true, not-true, not-false}
+use borrow.Author.Tests.{eq-eqb, eqb-true, ltb-true, leb-true, not-false}
 use Rattle.tasks.proofs.Below.{all-each, any-make, first-holds, first-le, sum-up, sum-none}
-use Rattle.tasks.proofs.Bools.{both, clash, one-of}
+use Rattle.tasks.proofs.Bools.{both, one-of}
 use Rattle.tasks.specs.Below.{any, first, sum}
 use Rattle.tasks.specs.declared.Task.{Task}
 use Rattle.plans.specs.Pieces.{costs}

@@ -1,15 +1,15 @@
 -- A job since its release: how old it is, how many ticks it has run, and why it has ended.
-use mathlib.Core.Path.{_≡_, refl, sym, ap, _∙_}
+use mathlib.Core.Path.{_≡_, refl, sym, ap}
 use mathlib.Core.Logic.{_⊎_, inl, inr}
 use mathlib.Core.Bool.{Bool, true, false, cond}
-use Prim.Native.Nat.{ℕ, zero, suc, _+_, _≤_, _<_, min}
+use Prim.Native.Nat.{ℕ, suc, _+_, _≤_, _<_, min}
 use native.Mathlib.Omega.{arith}
 use lib.Dec.{ltb}
 use borrow.Author.Tests.{ltb-false}
 use Rattle.tasks.proofs.Bools.{clash}
 use Rattle.promise.specs.Model.{Stage, never, active, ended, Model, Sound, older, onward, finish, release, run, May}
 use Rattle.promise.specs.Moments.{Moment, goes, goesAt, finished, released, ticked, tick, Accepted}
-use Rattle.promise.proofs.Stage.{Good, Steady, good-finish, good-release}
+use Rattle.promise.proofs.Stage.{Good, good-finish, good-release}
 
 -- one for a test that passes
 abbrev pub one : Bool → ℕ

@@ -1,7 +1,7 @@
 -- One task's job: how much each piece of its task can still run, and what a tick leaves of that.
 use mathlib.Core.Path.{_≡_, refl, sym, ap, _∙_}
 use mathlib.Core.Bool.{Bool, true, false, cond}
-use Prim.Native.Nat.{ℕ, zero, suc, _+_, _-_, _≤_, _<_, min}
+use Prim.Native.Nat.{ℕ, suc, _+_, _-_, _≤_, _<_}
 use native.Mathlib.Decide.{decLt, ℕ-discrete}
 use native.Mathlib.Nat.{le-refl, le-trans}
 use native.Mathlib.Omega.{arith}
@@ -9,7 +9,7 @@ use lib.Dec.{ltb, eqb}
 use borrow.Author.Tests.{lt-ltb, le-ltb, eq-eqb, ne-eqb, ltb-true, ltb-false}
 use Rattle.plans.specs.Interference.{interference}
 use Rattle.promise.specs.Model.{Stage, never, active, ended, Model, Sound, at, older, onward, finish, release, run, May}
-use Rattle.promise.proofs.Potential.{potential, potential-tick, potential-less, potential-quiet, potential-fresh, potential-none, Move, passes, comes, move-tick, move-quiet}
+use Rattle.promise.proofs.Potential.{potential, potential-less, potential-quiet, potential-fresh, potential-none, Move, passes, comes, move-tick, move-quiet}
 
 -- how long piece j runs in a tick in which its task runs or not
 unfoldable pub hit : ℕ → Bool → Stage → ℕ

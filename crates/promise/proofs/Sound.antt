@@ -1,54 +1,18 @@
--- The plan and the state of the dispatcher as the promise sees them.
-use mathlib.Core.Path.{_≡_, refl, sym, ap, _∙_}
-use mathlib.Core.Bool.{Bool, true, false, cond}
+-- A plan that is accepted has good shape, as the promise sees it.
+use mathlib.Core.Path.{_≡_, refl}
+use mathlib.Core.Bool.{true, false}
 use Prim.Native.Nat.{ℕ, suc, _+_, _≤_, _<_}
 use native.Mathlib.Omega.{arith}
-use lib.Dec.{eqb}
 use borrow.Author.Tests.{eq-eqb}
 use Rattle.tasks.proofs.Below.{first-le}
-use Rattle.tasks.specs.Below.{any}
 use Rattle.plans.specs.Pieces.{taskOf, pieceOf, costs}
-use Rattle.plans.specs.Rank.{above}
 use Rattle.plans.specs.Shape.{isLast}
 use Rattle.plans.specs.declared.Plan.{Plan}
-use Rattle.dispatch.specs.Jobs.{jobOf, lastOf, names}
 use Rattle.dispatch.specs.Rules.{firstPiece}
-use Rattle.dispatch.specs.declared.Job.{Job}
-use Rattle.dispatch.specs.declared.Phase.{Phase}
-use Rattle.dispatch.specs.declared.Phase.the-variants.{Never, Active, Ended}
-use Rattle.dispatch.specs.declared.State.{State}
-use Rattle.promise.specs.Model.{Stage, never, active, ended, Model, Sound}
-use Rattle.promise.specs.Moments.{Moment}
+use Rattle.promise.specs.Model.{Sound}
+use Rattle.promise.specs.View.{modelOf}
 use Rattle.promise.proofs.Accepting.{Checked}
 use Rattle.promise.proofs.Shape.{Fits, fits, follower, costs-within, costs-own, Begins, begins}
-
-abbrev pub stageAs : Phase → (age piece ran : ℕ) → Stage
-stageAs Never a k r = never
-stageAs Active a k r = active a k r
-stageAs Ended a k r = ended a
-
-abbrev pub stageOf : Job → Stage
-stageOf j = stageAs (j .phase) (j .age) (j .piece) (j .ran)
-
--- some core ran task i in the tick before
-abbrev pub ranLast : Plan → State → ℕ → Bool
-ranLast p s i = any (p .cores) (λ x. names i (lastOf s x))
-
-abbrev pub momentOf : Plan → State → Moment
-momentOf p s = record { stage = λ i. stageOf (jobOf s i); ran = ranLast p s }
-
-abbrev pub modelOf : Plan → Model
-modelOf p = record {
-  tasks = p .count;
-  pieces = p .placed;
-  task = λ j. pieceOf p j .task .0;
-  cost = λ j. pieceOf p j .cost;
-  off = λ j. costs (pieceOf p) (pieceOf p j .task .0) j;
-  last = isLast (pieceOf p) (p .placed);
-  above = λ j q. above (taskOf p) (pieceOf p j) (pieceOf p q);
-  first = firstPiece p;
-  period = λ i. taskOf p i .period;
-}
 
 module _ (p : Plan) (c : Checked p) where
   pub piece-fits : (j : ℕ) → j < p .placed → Fits (p .cores) (p .count) (taskOf p) (pieceOf p) (p .placed) j
