@@ -12,4 +12,5 @@ pub mod Join
 pub mod Since
 pub mod Runs
 pub mod Cores
+pub mod Certificate
 pub mod Demand3
