@@ -14,3 +14,4 @@ pub mod Runs
 pub mod Cores
 pub mod Certificate
 pub mod Demand3
+mod Examples
