@@ -12,7 +12,7 @@ use Rattle.plans.specs.Pieces.{taskOf, pieceOf}
 use Rattle.plans.specs.Shape.{checkedPlan}
 use Rattle.plans.specs.declared.Plan.{Plan}
 use Rattle.dispatch.specs.Jobs.{freshState}
-use Rattle.promise.specs.Certificate.{Certificate}
+use Rattle.promise.specs.Certificate.{Certificate, Timely}
 use Rattle.promise.specs.Demand3.{Demand3}
 use Rattle.promise.specs.Requests.{after}
 use Rattle.promise.proofs.Accepting.{Checked, plan-says}
@@ -23,7 +23,7 @@ use Rattle.promise.proofs.Sound.{piece-fits, within-cost}
 
 module _ (p : Plan) (good : checkedPlan p ≡ Accepted) where
   -- any limits that are certified and within the deadlines
-  pub by-limits : (limit : ℕ → ℕ) → Certificate (modelOf p) limit → ((q : ℕ) → q < p .placed → modelOf p .last q ≡ true → modelOf p .off q + limit q ≤ taskOf p (modelOf p .task q) .deadline) → Demand3 p
+  pub by-limits : (limit : ℕ → ℕ) → Certificate (modelOf p) limit → Timely (modelOf p) limit (λ i. taskOf p i .deadline) → Demand3 p
   unfolding after
   by-limits limit C short = record {
     ends = λ before q later i d. rw (after-append p freshState before (q ∷ later)) (due-over p checked limit C short before q later i d .0);

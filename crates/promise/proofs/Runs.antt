@@ -26,7 +26,7 @@ use Rattle.dispatch.specs.declared.Phase.the-variants.{Never, Active, Ended}
 use Rattle.dispatch.specs.declared.State.{State}
 use Rattle.dispatch.specs.declared.Tasks.{Tasks}
 use Rattle.dispatch.specs.declared.Ticked.{Ticked}
-use Rattle.promise.specs.Certificate.{Certificate}
+use Rattle.promise.specs.Certificate.{Certificate, Timely}
 use Rattle.promise.specs.Demand3.{reached, Due}
 use Rattle.promise.specs.Moments.{fresh, finished, released, Step, Reached, start, next}
 use Rattle.promise.specs.Requests.{Request, asked, isAccepted, after, tally, namedOn, ticks, timesNamed, finishes}
@@ -81,7 +81,7 @@ module _ (p : Plan) (c : Checked p) where
   reach qs = reach-on qs freshState fresh-reached
 
   -- ---- a job since its release
-  module _ (limit : ℕ → ℕ) (C : Certificate (modelOf p) limit) (short : (q : ℕ) → q < p .placed → modelOf p .last q ≡ true → modelOf p .off q + limit q ≤ taskOf p (modelOf p .task q) .deadline) where
+  module _ (limit : ℕ → ℕ) (C : Certificate (modelOf p) limit) (short : Timely (modelOf p) limit (λ i. taskOf p i .deadline)) where
     abbrev Grown : (i x f w : ℕ) → State → Type 0
     Grown i x f w s = Since (modelOf p) (sound p c) (λ i. taskOf p i .cost) (within-cost p c) (full-cost p c) i x f w (stageOf (jobOf s i))
 

@@ -11,7 +11,7 @@ use Rattle.tasks.proofs.Counting.{count-fewer}
 use Rattle.tasks.proofs.Bools.{both, clash}
 use Rattle.tasks.specs.Below.{sum, count}
 use Rattle.plans.specs.Interference.{interference}
-use Rattle.promise.specs.Certificate.{Certificate}
+use Rattle.promise.specs.Certificate.{Certificate, Timely}
 use Rattle.promise.specs.Model.{Stage, never, active, ended, Model, Sound, at, finish, release, run, May}
 use Rattle.promise.specs.Moments.{Moment, fresh, held, goes, goesAt, finished, released, ticked, tick, Accepted, Agree, Reached, start, next}
 use Rattle.promise.proofs.Room.{Room, room-full, room-less, room-tick, room-time}
@@ -276,7 +276,7 @@ module _ (M : Model) (S : Sound M) (limit : ℕ → ℕ) (C : Certificate M limi
       omega arith
 
   -- any job
-  pub in-time : (deadline : ℕ → ℕ) → ((k : ℕ) → k < M .pieces → M .off k + M .cost k ≤ deadline (M .task k)) → ((q : ℕ) → q < M .pieces → M .last q ≡ true → M .off q + limit q ≤ deadline (M .task q)) →
+  pub in-time : (deadline : ℕ → ℕ) → ((k : ℕ) → k < M .pieces → M .off k + M .cost k ≤ deadline (M .task k)) → Timely M limit deadline →
       (s : Moment) → Reached M s → (i : ℕ) → i < M .tasks → (a k r : ℕ) → s .stage i ≡ active a k r → a < deadline i
   in-time deadline c d s v i h a k r e = go (M .last k) refl
     where
@@ -290,7 +290,7 @@ module _ (M : Model) (S : Sound M) (limit : ℕ → ℕ) (C : Certificate M limi
           rw (g .own) at t
 
   -- so rule 2 marks no job: after the finishes no active job has its deadline's age
-  pub never-late : (deadline : ℕ → ℕ) → ((k : ℕ) → k < M .pieces → M .off k + M .cost k ≤ deadline (M .task k)) → ((q : ℕ) → q < M .pieces → M .last q ≡ true → M .off q + limit q ≤ deadline (M .task q)) →
+  pub never-late : (deadline : ℕ → ℕ) → ((k : ℕ) → k < M .pieces → M .off k + M .cost k ≤ deadline (M .task k)) → Timely M limit deadline →
       (s : Moment) → Reached M s → (fs : ℕ → Bool) (i : ℕ) → i < M .tasks → (a k r : ℕ) → finished M fs (s .stage) i ≡ active a k r → a < deadline i
   unfolding finished finish
   never-late deadline c d s v fs i h a k r e = go (fs i) e

@@ -13,3 +13,7 @@ pub record Certificate (M : Model) (limit : ℕ → ℕ) : Type 0 where
   pub chain : (i j k : ℕ) → M .above i j ≡ true → M .above j k ≡ true → M .above i k ≡ true
   pub top : (j k : ℕ) → j < M .pieces → k < M .pieces → M .last k ≡ false → M .above j k ≡ false
   pub bound : (q : ℕ) → q < M .pieces → M .last q ≡ true → M .cost q + sum (M .pieces) (λ j. cond (M .above j q) (interference (M .cost j) (M .period (M .task j)) (limit q)) 0) ≤ limit q
+
+-- earlier costs and limit are within the deadline
+abbrev pub Timely : Model → (limit deadline : ℕ → ℕ) → Type 0
+Timely M limit deadline = (q : ℕ) → q < M .pieces → M .last q ≡ true → M .off q + limit q ≤ deadline (M .task q)
