@@ -13,7 +13,6 @@ use Rattle.plans.specs.declared.Plan.{Plan}
 use Rattle.dispatch.specs.Jobs.{noRun, jobOf, lastOf, isActive, names}
 use Rattle.dispatch.specs.Rules.{pieceAt}
 use Rattle.dispatch.specs.Sets.{member}
-use Rattle.dispatch.specs.Tick.{nextState}
 use Rattle.dispatch.specs.declared.CoreRun.{CoreRun}
 use Rattle.dispatch.specs.declared.Job.{Job}
 use Rattle.dispatch.specs.declared.Phase.{Phase}
@@ -22,10 +21,10 @@ use Rattle.dispatch.specs.declared.State.{State}
 use Rattle.promise.specs.Demand3.{OneCore, CoresRise}
 use Rattle.promise.specs.Model.{Stage, never, active, ended, older, onward, finish, run}
 use Rattle.promise.specs.Requests.{Request, asked, isAccepted, after, tally, namedOn, releases}
-use Rattle.promise.proofs.Accepting.{Checked, Passed, plan-says}
+use Rattle.promise.proofs.Accepting.{Checked, plan-says}
 use Rattle.promise.proofs.Join.{stood, named-stands}
 use Rattle.promise.proofs.Rules.{ready, ready-stage, next-stage, next-last, next-idle}
-use Rattle.promise.proofs.Runs.{by-answer, getD-all}
+use Rattle.promise.proofs.Runs.{Passes, stepped, by-answer, getD-all}
 use Rattle.promise.specs.View.{stageOf, modelOf}
 use Rattle.promise.proofs.Sound.{next-piece}
 
@@ -33,19 +32,16 @@ use Rattle.promise.proofs.Sound.{next-piece}
 refused-names : {A : Type 0} (i x : ℕ) → names i (getD (replicate 16 noRun) x noRun .runner) ≡ true → A
 refused-names i x e = clash e (ap (λ (r : CoreRun). names i (r .runner)) (getD-all 16 x noRun))
 
-module _ (p : Plan) (s : State) (q : Request) (ok : Passed p s (q .finished) (q .released)) where
+module _ (p : Plan) (s : State) (q : Request) (ok : Passes p s q) where
   checked : Checked p
   checked = plan-says p (ok .plan)
 
-  -- the state from which the runners are chosen, and the one after the tick
+  -- the state from which the runners are chosen
   abbrev before : State
   before = ready p checked (q .finished) (q .released) s
 
-  abbrev later : State
-  later = nextState p (q .finished) (q .released) s
-
   -- a task that an accepted tick names on a core is active at a piece there
-  named-there : (i x : ℕ) → names i (lastOf later x) ≡ true → (i < p .count) × (isActive (jobOf before i .phase) ≡ true) × (pieceAt p before i .core .0 ≡ x)
+  named-there : (i x : ℕ) → names i (lastOf (stepped p s q) x) ≡ true → (i < p .count) × (isActive (jobOf before i .phase) ≡ true) × (pieceAt p before i .core .0 ≡ x)
   named-there i x e = go (decLt x (p .cores))
     where
       go : Dec (x < p .cores) → (i < p .count) × (isActive (jobOf before i .phase) ≡ true) × (pieceAt p before i .core .0 ≡ x)
@@ -101,11 +97,11 @@ from-make p x j a l e = go (j .phase) refl
     go Ended q = clash a (rw q)
     go Active q = rw q (l, omega arith)
 
-module _ (p : Plan) (s : State) (q : Request) (ok : Passed p s (q .finished) (q .released)) (i : ℕ) (known : i < p .count) (x : ℕ) where
+module _ (p : Plan) (s : State) (q : Request) (ok : Passes p s q) (i : ℕ) (known : i < p .count) (x : ℕ) where
   from-ready : member (q .released) i ≡ false → From p x (stageOf (jobOf s i)) → From p x (stageOf (jobOf (before p s q ok) i))
   from-ready m h = rw (ready-stage p (checked p s q ok) (q .finished) (q .released) s i known, m) (from-finish p x (member (q .finished) i) (stageOf (jobOf s i)) h)
 
-  from-tick : From p x (stageOf (jobOf (before p s q ok) i)) → From p x (stageOf (jobOf (later p s q ok) i))
+  from-tick : From p x (stageOf (jobOf (before p s q ok) i)) → From p x (stageOf (jobOf (stepped p s q) i))
   from-tick h = rw (next-stage p (checked p s q ok) (q .finished) (q .released) s i known) (from-run p (checked p s q ok) x i _ _ h)
 
 -- a count of 0 has counted nothing
@@ -121,12 +117,12 @@ module _ (p : Plan) (i x y : ℕ) (known : i < p .count) where
       from-core p x y (jobOf (before p s r ok) i) (u .1) (u .2) (from-ready p s r ok i known x (nothing _ _ n .0) h))
       (λ z n e. refused-names i y e)
   from-on (q ∷ between) r s h = by-answer p s q (λ t. cond (isAccepted (t .answer) && member (q .released) i) 1 0 + releases i p (t .state) (between ++ r ∷ []) ≡ 0 → names i (namedOn (asked p (after p (t .state) between) r) y) ≡ true → x ≤ y)
-      (λ ok n. let u : (member (q .released) i ≡ false) × (releases i p (later p s q ok) (between ++ r ∷ []) ≡ 0) = nothing _ _ n in
-      from-on between r (later p s q ok) (from-tick p s q ok i known x (from-ready p s q ok i known x (u .0) h)) (u .1))
+      (λ ok n. let u : (member (q .released) i ≡ false) × (releases i p (stepped p s q) (between ++ r ∷ []) ≡ 0) = nothing _ _ n in
+      from-on between r (stepped p s q) (from-tick p s q ok i known x (from-ready p s q ok i known x (u .0) h)) (u .1))
       (λ z n. from-on between r s h (nothing false _ n .1))
 
 pub cores-rise : (p : Plan) → CoresRise p
 cores-rise p s q between r i x y = by-answer p s q (λ t. names i (namedOn t x) ≡ true → releases i p (t .state) (between ++ r ∷ []) ≡ 0 → names i (namedOn (asked p (after p (t .state) between) r) y) ≡ true → x ≤ y)
     (λ ok e. let u : (i < p .count) × (isActive (jobOf (before p s q ok) i .phase) ≡ true) × (pieceAt p (before p s q ok) i .core .0 ≡ x) = named-there p s q ok i x e in
-    from-on p i x y (u .0) between r (later p s q ok) (from-tick p s q ok i (u .0) x (from-make p x (jobOf (before p s q ok) i) (u .1) (stood p (checked p s q ok) (q .finished) (q .released) s ok i (u .0) (u .1) .known) (u .2))))
+    from-on p i x y (u .0) between r (stepped p s q) (from-tick p s q ok i (u .0) x (from-make p x (jobOf (before p s q ok) i) (u .1) (stood p (checked p s q ok) (q .finished) (q .released) s ok i (u .0) (u .1) .known) (u .2))))
     (λ z e. refused-names i x e)

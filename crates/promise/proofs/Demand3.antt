@@ -1,8 +1,7 @@
 -- Demand 3 for every plan of good shape that has the certificate. What `Demand3` says is in specs/Demand3.antt.
 use mathlib.Core.Path.{_≡_}
-use mathlib.Core.Bool.{true}
 use mathlib.Core.List.{[], _∷_}
-use Prim.Native.Nat.{ℕ, _+_, _≤_, _<_}
+use Prim.Native.Nat.{ℕ}
 use native.Mathlib.Omega.{arith}
 use Rattle.tasks.specs.declared.Answer.the-variants.{Accepted}
 use Rattle.plans.proofs.Rank.{above-self, above-chain}

@@ -28,25 +28,35 @@ use Rattle.dispatch.specs.declared.Tasks.{Tasks}
 use Rattle.dispatch.specs.declared.Ticked.{Ticked}
 use Rattle.promise.specs.Certificate.{Certificate, Timely}
 use Rattle.promise.specs.Demand3.{reached, Due}
-use Rattle.promise.specs.Moments.{fresh, finished, released, Step, Reached, start, next}
+use Rattle.promise.specs.Moments as moments
+use Rattle.promise.specs.Moments.{fresh, finished, released, goes, Reached, start, next}
 use Rattle.promise.specs.Requests.{Request, asked, isAccepted, after, tally, namedOn, ticks, timesNamed, finishes}
 use Rattle.promise.proofs.Accepting.{Checked, Passed, tick-says}
 use Rattle.promise.proofs.Join.{stages, named-goes, tick-step}
 use Rattle.promise.proofs.Rules.{finish-stage}
 use Rattle.promise.proofs.Safe.{inv-reached, in-time, never-late}
+use Rattle.promise.proofs.Stage.{Good}
 use Rattle.promise.proofs.Since.{one, Why, Since, since-tick, since-release}
 use Rattle.promise.specs.View.{stageOf, ranLast, momentOf, modelOf}
 use Rattle.promise.proofs.Sound.{piece-fits, sound, within-cost, full-cost}
 
 -- ---- one request
+-- the request has passed every test of an accepted tick in s
+abbrev pub Passes : Plan → State → Request → Type 0
+Passes p s q = Passed p s (q .finished) (q .released)
+
+-- the state after a request that is accepted in s
+abbrev pub stepped : Plan → State → Request → State
+stepped p s q = nextState p (q .finished) (q .released) s
+
 -- what holds of the answer to an accepted request and of a refusal holds of what is answered
 pub by-answer : (p : Plan) (s : State) (q : Request) (P : Ticked → Type 0) →
-    (Passed p s (q .finished) (q .released) → P (answered Accepted s (nextState p (q .finished) (q .released) s))) →
-    ((r : Refusal) → P (answered (Refused r) s (nextState p (q .finished) (q .released) s))) → P (asked p s q)
+    (Passes p s q → P (answered Accepted s (stepped p s q))) →
+    ((r : Refusal) → P (answered (Refused r) s (stepped p s q))) → P (asked p s q)
 unfolding tick
 by-answer p s q P good bad = go (judged p s (q .finished) (q .released)) refl
   where
-    go : (a : Answer) → judged p s (q .finished) (q .released) ≡ a → P (answered a s (nextState p (q .finished) (q .released) s))
+    go : (a : Answer) → judged p s (q .finished) (q .released) ≡ a → P (answered a s (stepped p s q))
     go Accepted e = good (tick-says p s (q .finished) (q .released) e)
     go (Refused r) e = bad r
 
@@ -57,7 +67,7 @@ after-append p s [] b = refl
 after-append p s (q ∷ a) b = after-append p (asked p s q .state) a b
 
 -- what each accepted tick keeps, a list of requests keeps
-pub after-keeps : (p : Plan) (P : State → Type 0) → ((s : State) (q : Request) → Passed p s (q .finished) (q .released) → P s → P (nextState p (q .finished) (q .released) s)) → (qs : List Request) (s : State) → P s → P (after p s qs)
+pub after-keeps : (p : Plan) (P : State → Type 0) → ((s : State) (q : Request) → Passes p s q → P s → P (stepped p s q)) → (qs : List Request) (s : State) → P s → P (after p s qs)
 unfolding after
 after-keeps p P h [] s v = v
 after-keeps p P h (q ∷ qs) s v = after-keeps p P h qs (asked p s q .state) (by-answer p s q (λ t. P (t .state)) (λ ok. h s q ok v) (λ r. v))
@@ -83,21 +93,25 @@ module _ (p : Plan) (c : Checked p) where
   -- ---- a job since its release
   module _ (limit : ℕ → ℕ) (C : Certificate (modelOf p) limit) (short : Timely (modelOf p) limit (λ i. taskOf p i .deadline)) where
     abbrev Grown : (i x f w : ℕ) → State → Type 0
-    Grown i x f w s = Since (modelOf p) (sound p c) (λ i. taskOf p i .cost) (within-cost p c) (full-cost p c) i x f w (stageOf (jobOf s i))
+    Grown i x f w s = Since (modelOf p) (λ i. taskOf p i .cost) i x f w (stageOf (jobOf s i))
 
     grown-same : (i : ℕ) {x x′ f f′ w w′ : ℕ} (s : State) → x ≡ x′ → f ≡ f′ → w ≡ w′ → Grown i x f w s → Grown i x′ f′ w′ s
     grown-same i s a b d v = rw (← a, ← b, ← d) v
 
-    -- one accepted tick more
-    grown-tick : (i x f w : ℕ) → i < p .count → (s : State) (q : Request) → Reached (modelOf p) (momentOf p s) → Passed p s (q .finished) (q .released) → x < taskOf p i .period → Grown i x f w s → Grown i (suc x) (f + one (member (q .finished) i)) (w + one (ranLast p (nextState p (q .finished) (q .released) s) i)) (nextState p (q .finished) (q .released) s)
-    grown-tick i x f w h s q r ok l v =
-        let k : Step (modelOf p) (member (q .finished)) (member (q .released)) (momentOf p s) (momentOf p (nextState p (q .finished) (q .released) s)) = tick-step p c (q .finished) (q .released) s ok in
-        rw (k .agree .stages i h, named-goes p c (q .finished) (q .released) s ok i h) (since-tick (modelOf p) (sound p c) (λ i. taskOf p i .cost) (within-cost p c) (full-cost p c) i h (member (q .finished)) (member (q .released)) (momentOf p s) (k .accepted) (inv-reached (modelOf p) (sound p c) limit C _ r .fit .good i h) x f w l v)
+    -- what the promise's own tick says of task i, the dispatcher's tick says
+    grown-by : (i x f w : ℕ) → i < p .count → (s : State) (q : Request) (ok : Passes p s q) →
+        Since (modelOf p) (λ i. taskOf p i .cost) i x f (w + one (goes (modelOf p) (stages p c (q .finished) (q .released) s ok) i)) (moments.tick (modelOf p) (member (q .finished)) (member (q .released)) (momentOf p s) .stage i) → Grown i x f (w + one (ranLast p (stepped p s q) i)) (stepped p s q)
+    grown-by i x f w h s q ok v = rw (tick-step p c (q .finished) (q .released) s ok .agree .stages i h, named-goes p c (q .finished) (q .released) s ok i h) v
 
-    grown-release : (i : ℕ) → i < p .count → (s : State) (q : Request) → Reached (modelOf p) (momentOf p s) → Passed p s (q .finished) (q .released) → member (q .released) i ≡ true → Grown i 1 0 (0 + one (ranLast p (nextState p (q .finished) (q .released) s) i)) (nextState p (q .finished) (q .released) s)
-    grown-release i h s q r ok m =
-        let k : Step (modelOf p) (member (q .finished)) (member (q .released)) (momentOf p s) (momentOf p (nextState p (q .finished) (q .released) s)) = tick-step p c (q .finished) (q .released) s ok in
-        rw (k .agree .stages i h, named-goes p c (q .finished) (q .released) s ok i h) (since-release (modelOf p) (sound p c) (λ i. taskOf p i .cost) (within-cost p c) (full-cost p c) i h (member (q .finished)) (member (q .released)) (momentOf p s) (k .accepted) (inv-reached (modelOf p) (sound p c) limit C _ r .fit .good i h) (omega (arith, c .values i h)) m)
+    steady : (i : ℕ) → i < p .count → (s : State) → Reached (modelOf p) (momentOf p s) → Good (modelOf p) i (stageOf (jobOf s i))
+    steady i h s r = inv-reached (modelOf p) (sound p c) limit C (momentOf p s) r .fit .good i h
+
+    -- one accepted tick more
+    grown-tick : (i x f w : ℕ) → i < p .count → (s : State) (q : Request) → Reached (modelOf p) (momentOf p s) → Passes p s q → x < taskOf p i .period → Grown i x f w s → Grown i (suc x) (f + one (member (q .finished) i)) (w + one (ranLast p (stepped p s q) i)) (stepped p s q)
+    grown-tick i x f w h s q r ok l v = grown-by i _ _ w h s q ok (since-tick (modelOf p) (sound p c) (λ i. taskOf p i .cost) (within-cost p c) (full-cost p c) i h (member (q .finished)) (member (q .released)) (momentOf p s) (tick-step p c (q .finished) (q .released) s ok .accepted) (steady i h s r) x f w l v)
+
+    grown-release : (i : ℕ) → i < p .count → (s : State) (q : Request) → Reached (modelOf p) (momentOf p s) → Passes p s q → member (q .released) i ≡ true → Grown i 1 0 (0 + one (ranLast p (stepped p s q) i)) (stepped p s q)
+    grown-release i h s q r ok m = grown-by i _ _ 0 h s q ok (since-release (modelOf p) (sound p c) (λ i. taskOf p i .cost) (within-cost p c) (full-cost p c) i h (member (q .finished)) (member (q .released)) (momentOf p s) (tick-step p c (q .finished) (q .released) s ok .accepted) (steady i h s r) (omega (arith, c .values i h)) m)
 
     -- a list of requests more
     grown-after : (i : ℕ) → i < p .count → (qs : List Request) (s : State) (x f w : ℕ) → Reached (modelOf p) (momentOf p s) → x + ticks p s qs ≤ taskOf p i .period → Grown i x f w s → Grown i (x + ticks p s qs) (f + finishes i p s qs) (w + timesNamed i p s qs) (after p s qs)
@@ -106,7 +120,7 @@ module _ (p : Plan) (c : Checked p) where
     grown-after i h (q ∷ qs) s x f w r l v = by-answer p s q
         (λ t. x + (cond (isAccepted (t .answer) && true) 1 0 + ticks p (t .state) qs) ≤ taskOf p i .period →
         Grown i (x + (cond (isAccepted (t .answer) && true) 1 0 + ticks p (t .state) qs)) (f + (cond (isAccepted (t .answer) && member (q .finished) i) 1 0 + finishes i p (t .state) qs)) (w + (cond (isAccepted (t .answer) && any (p .cores) (λ y. names i (namedOn t y))) 1 0 + timesNamed i p (t .state) qs)) (after p (t .state) qs))
-        (λ ok l. grown-same i (after p (nextState p (q .finished) (q .released) s) qs) (omega arith) (omega arith) (omega arith) (grown-after i h qs (nextState p (q .finished) (q .released) s) (suc x) (f + one (member (q .finished) i)) (w + one (ranLast p (nextState p (q .finished) (q .released) s) i)) (next _ _ r (tick-step p c (q .finished) (q .released) s ok)) (omega arith) (grown-tick i x f w h s q r ok (omega arith) v)))
+        (λ ok l. grown-same i (after p (stepped p s q) qs) (omega arith) (omega arith) (omega arith) (grown-after i h qs (stepped p s q) (suc x) (f + one (member (q .finished) i)) (w + one (ranLast p (stepped p s q) i)) (next _ _ r (tick-step p c (q .finished) (q .released) s ok)) (omega arith) (grown-tick i x f w h s q r ok (omega arith) v)))
         (λ z l. grown-same i (after p s qs) (omega arith) (omega arith) (omega arith) (grown-after i h qs s x f w r (omega arith) v)) l
 
     -- a task's pieces fit into its deadline
@@ -137,9 +151,9 @@ module _ (p : Plan) (c : Checked p) where
         s = reached p before
 
         n : State
-        n = nextState p (q .finished) (q .released) s
+        n = stepped p s q
 
-        yield : Passed p s (q .finished) (q .released) → true ≡ true → 1 + ticks p n later ≡ taskOf p i .deadline → (jobOf (after p n later) i .phase ≡ Ended) × Why (taskOf p i .cost) (finishes i p n later) (one (ranLast p n i) + timesNamed i p n later)
+        yield : Passes p s q → true ≡ true → 1 + ticks p n later ≡ taskOf p i .deadline → (jobOf (after p n later) i .phase ≡ Ended) × Why (taskOf p i .cost) (finishes i p n later) (one (ranLast p n i) + timesNamed i p n later)
         yield ok a e =
             let r : Reached (modelOf p) (momentOf p n) = next _ _ (reach before) (tick-step p c (q .finished) (q .released) s ok) in
             old-ended i _ _ (d .task) (after p n later) (reach-on later n r) (grown-same i (after p n later) e (omega arith) (omega arith) (grown-after i (d .task) later n 1 0 (0 + one (ranLast p n i)) r (omega (arith, e, c .values i (d .task))) (grown-release i (d .task) s q (reach before) ok (d .released))))
@@ -157,7 +171,7 @@ module _ (p : Plan) (c : Checked p) where
             young : jobOf (finish p fs s) i .age < taskOf p i .deadline
             young = never-late (modelOf p) (sound p c) limit C (λ i. taskOf p i .deadline) whole short (momentOf p s) r (member fs) i h (jobOf (finish p fs s) i .age) (jobOf (finish p fs s) i .piece) (jobOf (finish p fs s) i .ran) (sym (finish-stage p c fs s i h) ∙ rw e)
 
-    late-same : (s : State) (q : Request) → Reached (modelOf p) (momentOf p s) → nextState p (q .finished) (q .released) s .late ≡ total (s .late) 0
+    late-same : (s : State) (q : Request) → Reached (modelOf p) (momentOf p s) → stepped p s q .late ≡ total (s .late) 0
     unfolding nextState age countPreempted run release markLate finish eachJob count
     late-same s q r = ap (total (s .late)) (sum-none (p .count) _ (λ i h. ap one (none-turns s (q .finished) r i h)))
 
