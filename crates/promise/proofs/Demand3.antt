@@ -40,7 +40,7 @@ module _ (p : Plan) (good : checkedPlan p ≡ Accepted) where
   unfolding localDeadline bound load
   demand-3 C = by-limits (localDeadline (taskOf p) (pieceOf p))
       (record { strict = λ j. above-self (taskOf p) (pieceOf p j); chain = λ i j k. above-chain (taskOf p) (pieceOf p i) (pieceOf p j) (pieceOf p k); top = C .top; bound = C .within })
-      (λ q h z. omega (arith, within-cost p checked q h, checked .values _ (piece-fits p checked q h .owned)))
+      (λ q h z. omega (arith, within-cost p checked q h, checked .values _ (piece-fits p checked q h .task)))
     where
       checked : Checked p
       checked = plan-says p good

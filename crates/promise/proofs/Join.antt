@@ -89,7 +89,7 @@ module _ (p : Plan) (c : Checked p) (t : State) (stood : (i : ℕ) → i < p .co
   module _ (o : ℕ → Stage) (same : (i : ℕ) → i < p .count → o i ≡ stageOf (jobOf t i)) where
     -- a piece that a job is at is that job's
     there : (j : ℕ) → j < p .placed → at j (o (pieceOf p j .task .0)) ≡ true → (isActive (jobOf t (pieceOf p j .task .0) .phase) ≡ true) × (jobOf t (pieceOf p j .task .0) .piece ≡ j)
-    there j l e = at-says j (jobOf t (pieceOf p j .task .0)) (rw (same _ (piece-fits p c j l .owned)) at e)
+    there j l e = at-says j (jobOf t (pieceOf p j .task .0)) (rw (same _ (piece-fits p c j l .task)) at e)
 
     -- nothing that a job is at is ranked above the piece of the task that is picked
     pub picked-free : (i : ℕ) → Picked p t (pieceAt p t i .core .0) (p .count) i → held (modelOf p) o (jobOf t i .piece) ≡ false
@@ -114,7 +114,7 @@ module _ (p : Plan) (c : Checked p) (t : State) (stood : (i : ℕ) → i < p .co
 
             case : Dec (pieceOf p j .task .0 ≡ i) → above (taskOf p) (pieceOf p j) (pieceAt p t i) && at j (o (pieceOf p j .task .0)) ≡ false
             case (yes e) = clash (u .0) (ap (λ (z : Piece). above (taskOf p) z (pieceAt p t i)) (sym its ∙ ap (pieceAt p t) e) ∙ above-self (taskOf p) (pieceAt p t i))
-            case (no e) = clash (u .0) (above-one-way (taskOf p) (pieceAt p t i) (pieceOf p j) (rw its at (k .over _ (piece-fits p c j l .owned) stands e)))
+            case (no e) = clash (u .0) (above-one-way (taskOf p) (pieceAt p t i) (pieceOf p j) (rw its at (k .over _ (piece-fits p c j l .task) stands e)))
 
     -- the piece of a task that is picked holds each other task on its core
     pub picked-holds : (i z : ℕ) → i < p .count → isActive (jobOf t i .phase) ≡ true → Picked p t (pieceAt p t i .core .0) (p .count) z → (i ≡ z → ⊥) → held (modelOf p) o (jobOf t i .piece) ≡ true

@@ -125,7 +125,7 @@ module _ (p : Plan) (c : Checked p) where
 
     -- a task's pieces fit into its deadline
     whole : (k : ℕ) → k < p .placed → modelOf p .off k + pieceOf p k .cost ≤ taskOf p (pieceOf p k .task .0) .deadline
-    whole k h = omega (arith, within-cost p c k h, c .values _ (piece-fits p c k h .owned))
+    whole k h = omega (arith, within-cost p c k h, c .values _ (piece-fits p c k h .task))
 
     -- a job that is as old as its deadline has ended
     old-ended : (i f w : ℕ) → i < p .count → (t : State) → Reached (modelOf p) (momentOf p t) → Grown i (taskOf p i .deadline) f w t → (jobOf t i .phase ≡ Ended) × Why (taskOf p i .cost) f w
