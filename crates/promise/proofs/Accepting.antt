@@ -1,17 +1,16 @@
 -- What an accepted plan and an accepted tick have passed.
 use mathlib.Core.Path.{_≡_, refl}
-use mathlib.Core.Bool.{Bool, true, false, not, _&&_, cond}
+use mathlib.Core.Bool.{Bool, true, false, _&&_, cond}
 use Prim.Native.Nat.{ℕ, _≤_, _<_}
 use native.Mathlib.Omega.{arith}
-use borrow.Author.Tests.{not-false}
 use Rattle.tasks.proofs.Below.{any-each}
-use Rattle.tasks.proofs.Tables.{Ranges, values-say, counts-say}
-use Rattle.tasks.specs.Below.{any, first}
-use Rattle.tasks.specs.Tables.{taskNo, coresFit, tasksFit, valuesFit, andThen, checkedTasks}
+use Rattle.tasks.proofs.Tables.{GoodTable, Ranges, accepted-good}
+use Rattle.tasks.specs.Below.{first}
+use Rattle.tasks.specs.Tables.{taskNo, andThen, checkedTasks}
 use Rattle.tasks.specs.declared.Answer.{Answer}
 use Rattle.tasks.specs.declared.Answer.the-variants.{Accepted, Refused}
 use Rattle.tasks.specs.declared.Refusal.{Refusal}
-use Rattle.tasks.specs.declared.Refusal.the-variants.{CoresGiven, TasksGiven, ValuesOf, NoPlanShape, NotWellMade, NotRun, TooSoon, StillActive}
+use Rattle.tasks.specs.declared.Refusal.the-variants.{NoPlanShape, NotWellMade, NotRun, TooSoon, StillActive}
 use Rattle.tasks.specs.declared.TaskNo.{TaskNo}
 use Rattle.plans.specs.Pieces.{taskOf, pieceOf}
 use Rattle.plans.specs.Shape.{shape, checkedPlan}
@@ -47,31 +46,14 @@ pub record Checked (p : Plan) : Type 0 where
   pub shaped : shape (p .cores) (p .count) (taskOf p) (pieceOf p) (p .placed) ≡ true
 
 pub plan-says : (p : Plan) → checkedPlan p ≡ Accepted → Checked p
-unfolding checkedPlan checkedTasks
-plan-says p h = record {
-  cores = counts-say (p .cores) 16 (not-false _ (c .0)) .1;
-  tasks = counts-say (p .count) 64 (not-false _ (n .0)) .1;
-  values = λ i l. values-say (taskOf p i) (not-false _ (any-each (p .count) bad (v .0) i l));
-  shaped = passes _ NoPlanShape (t .1);
-}
+unfolding checkedPlan
+plan-says p h = record { cores = g .cores .1; tasks = g .tasks .1; values = g .values; shaped = passes _ NoPlanShape (t .1) }
   where
-    bad : ℕ → Bool
-    bad i = not (valuesFit (taskOf p i))
-
-    wrong : Answer
-    wrong = cond (any (p .count) bad) (Refused (ValuesOf (taskNo (first (p .count) bad)))) Accepted
-
     t : (checkedTasks (p .cores) (p .count) (taskOf p) ≡ Accepted) × (cond (shape (p .cores) (p .count) (taskOf p) (pieceOf p) (p .placed)) Accepted (Refused NoPlanShape) ≡ Accepted)
     t = then-says (checkedTasks (p .cores) (p .count) (taskOf p)) _ h
 
-    c : (not (coresFit (p .cores)) ≡ false) × (cond (not (tasksFit (p .count))) (Refused (TasksGiven (p .count))) wrong ≡ Accepted)
-    c = escapes _ (CoresGiven (p .cores)) _ (t .0)
-
-    n : (not (tasksFit (p .count)) ≡ false) × (wrong ≡ Accepted)
-    n = escapes _ (TasksGiven (p .count)) _ (c .1)
-
-    v : (any (p .count) bad ≡ false) × (Accepted ≡ Accepted)
-    v = escapes _ (ValuesOf (taskNo (first (p .count) bad))) Accepted (n .1)
+    g : GoodTable (p .cores) (p .count) (taskOf p)
+    g = accepted-good (p .cores) (p .count) (taskOf p) (t .0)
 
 -- ---- an accepted tick
 pub record Passed (p : Plan) (s : State) (fs rs : Tasks) : Type 0 where

@@ -1,21 +1,25 @@
--- Demand 3 for every plan of good shape that has the certificate. What `Demand3` says is in specs/Demand3.antt.
+-- Demand 3 for every table that the planner accepts, and before that for every plan of good shape that has the certificate.
+-- What `Demand3` says is in specs/Demand3.antt.
 use mathlib.Core.Path.{_≡_}
 use mathlib.Core.List.{[], _∷_}
 use Prim.Native.Nat.{ℕ}
 use native.Mathlib.Omega.{arith}
 use Rattle.tasks.specs.declared.Answer.the-variants.{Accepted}
+use Rattle.tasks.specs.declared.Table.{Table}
 use Rattle.plans.proofs.Rank.{above-self, above-chain}
 use Rattle.plans.specs.Bound.{localDeadline, load, bound}
 use Rattle.plans.specs.Certificate.{Certified}
 use Rattle.plans.specs.Pieces.{taskOf, pieceOf}
 use Rattle.plans.specs.Shape.{checkedPlan}
 use Rattle.plans.specs.declared.Plan.{Plan}
+use Rattle.layout.specs.Layout.{planned}
 use Rattle.dispatch.specs.Jobs.{freshState}
 use Rattle.promise.specs.Certificate.{Certificate, Timely}
-use Rattle.promise.specs.Demand3.{Demand3}
+use Rattle.promise.specs.Demand3.{Demand3, PlanOf}
 use Rattle.promise.specs.Requests.{after}
 use Rattle.promise.proofs.Accepting.{Checked, plan-says}
 use Rattle.promise.proofs.Cores.{one-core, cores-rise}
+use Rattle.promise.proofs.Planned.{Placed, planned-placed}
 use Rattle.promise.proofs.Runs.{after-append, due-over, none-late}
 use Rattle.promise.specs.View.{modelOf}
 use Rattle.promise.proofs.Sound.{piece-fits, within-cost}
@@ -44,3 +48,7 @@ module _ (p : Plan) (good : checkedPlan p ≡ Accepted) where
     where
       checked : Checked p
       checked = plan-says p good
+
+-- For every table for which the planner answers with a plan: it is a plan of that table, and no job is late.
+pub no-job-is-late : (t : Table) → planned t .answer ≡ Accepted → PlanOf t (planned t .plan) × Demand3 (planned t .plan)
+no-job-is-late t h = let p : Placed t (planned t .plan) = planned-placed t h in (p .plan, demand-3 (planned t .plan) (p .good) (p .certified))

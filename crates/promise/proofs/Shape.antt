@@ -18,9 +18,9 @@ use Rattle.plans.specs.Shape.{isShare, sameTask, follows, inOrder, isLast, piec
 use Rattle.plans.specs.declared.Piece.{Piece}
 
 -- ---- the costs of a task's pieces
-costs-none : (pc : ℕ → Piece) (i k : ℕ) → ((j : ℕ) → j < k → eqb (pc j .task .0) i ≡ false) → costs pc i k ≡ 0
+costs-away : (pc : ℕ → Piece) (i k : ℕ) → ((j : ℕ) → j < k → eqb (pc j .task .0) i ≡ false) → costs pc i k ≡ 0
 unfolding costs
-costs-none pc i k h = sum-none k _ (λ j l. rw (h j l))
+costs-away pc i k h = sum-none k _ (λ j l. rw (h j l))
 
 costs-up : (pc : ℕ → Piece) (i j k : ℕ) → j ≤ k → costs pc i j ≤ costs pc i k
 unfolding costs
@@ -105,7 +105,7 @@ module _ (m count : ℕ) (ts : ℕ → Task) (pc : ℕ → Piece) (n : ℕ) (goo
     pub none : costs pc i (first n (λ k. eqb (pc k .task .0) i)) ≡ 0
 
   pub begins : (i : ℕ) → i < count → Begins i
-  begins i h = record { known = l .0; own = eqb-true _ _ (l .1); none = costs-none pc i _ (λ j b. go j b _ refl) }
+  begins i h = record { known = l .0; own = eqb-true _ _ (l .1); none = costs-away pc i _ (λ j b. go j b _ refl) }
     where
       own : ℕ → Bool
       own k = eqb (pc k .task .0) i

@@ -1,9 +1,12 @@
--- Demand 3: what is promised of a plan, for every list of tick requests from the fresh state. Why it holds is in proofs/Demand3.antt.
+-- Demand 3: what is promised of a plan, for every list of tick requests from the fresh state.
+-- That it holds for every table for which the planner answers with a plan is `no-job-is-late` in proofs/Demand3.antt.
 use mathlib.Core.Path.{_≡_}
 use mathlib.Core.Logic.{_⊎_}
 use mathlib.Core.Bool.{true}
 use mathlib.Core.List.{List, [], _∷_, _++_}
 use Prim.Native.Nat.{ℕ, _≤_, _<_}
+use Rattle.tasks.specs.Tables as table
+use Rattle.tasks.specs.declared.Table.{Table}
 use Rattle.plans.specs.Pieces.{taskOf}
 use Rattle.plans.specs.declared.Plan.{Plan}
 use Rattle.dispatch.specs.Jobs.{freshState, jobOf, names}
@@ -44,3 +47,9 @@ pub record Demand3 (p : Plan) : Type 0 where
   pub none : (qs : List Request) → reached p qs .late ≡ 0
   pub oneCore : OneCore p
   pub rises : CoresRise p
+
+-- a plan of the table's tasks on the table's cores
+pub record PlanOf (t : Table) (p : Plan) : Type 0 where
+  pub cores : p .cores ≡ t .cores
+  pub count : p .count ≡ t .count
+  pub tasks : (i : ℕ) → i < t .count → taskOf p i ≡ table.taskOf t i
