@@ -1,27 +1,27 @@
--- That the promise's hypotheses can be met: document 01's P6 board has the certificate.
+-- That the hypotheses of demand 3 are met: document 01's P6 board, a slope table on four and on eight cores,
+-- and a run in which a share is held back on its last core by a later one.
 use mathlib.Core.Path.{_≡_, refl}
-use mathlib.Core.Bool.{Bool, true, not, _&&_, _||_}
 use mathlib.Core.List.{List, [], _∷_, _++_, map}
-use Prim.Native.Nat.{ℕ}
-use lib.Dec.{leb}
+use Prim.Native.Nat.{ℕ, _-_}
 use lib.ListN.{length, replicate}
-use borrow.Author.Tests.{leb-true, not-true}
-use Rattle.tasks.proofs.Below.{all-each}
-use Rattle.tasks.proofs.Bools.{both}
 use Rattle.tasks.specs.Below.{all, any, first, sum, count, tabulate, padded}
 use Rattle.tasks.specs.Tables.{taskNo, coreNo, noTask, checkedTasks}
 use Rattle.tasks.specs.declared.Answer.the-variants.{Accepted}
+use Rattle.tasks.specs.declared.Table.{Table}
 use Rattle.tasks.specs.declared.Task.{Task}
 use Rattle.plans.specs.Bound.{localDeadline, load, bound}
-use Rattle.plans.specs.Certificate.{Certified}
-use Rattle.plans.specs.Interference.{interference}
-use Rattle.plans.specs.Pieces.{noPiece, taskOf, pieceOf, costs}
+use Rattle.plans.specs.Interference.{interference, periods}
+use Rattle.plans.specs.Pieces.{noPiece, costs}
 use Rattle.plans.specs.Rank.{above}
 use Rattle.plans.specs.Shape.{follows, inOrder, isLast, pieceFits, shape, checkedPlan}
 use Rattle.plans.specs.declared.Kind.{Kind}
 use Rattle.plans.specs.declared.Kind.the-variants.{Whole, Share}
 use Rattle.plans.specs.declared.Piece.{Piece}
 use Rattle.plans.specs.declared.Plan.{Plan}
+use Rattle.layout.specs.Layout.{start, place, layFirst, planned}
+use Rattle.layout.specs.Limit.{allowance, limitOf}
+use Rattle.layout.specs.Shared.{giveShare, close, shareFrom}
+use Rattle.layout.specs.Whole.{put, takesWhole}
 use Rattle.dispatch.specs.Jobs.{freshState}
 use Rattle.dispatch.specs.Refusing.{judged, judgedSets, lowest}
 use Rattle.dispatch.specs.Rules.{eachJob, finish, markLate, release, run, age, countPreempted, preempted, highest, firstPiece}
@@ -34,32 +34,25 @@ use Rattle.dispatch.specs.declared.State.{State}
 use Rattle.dispatch.specs.declared.Tasks.{Tasks}
 use Rattle.promise.specs.Demand3.{Demand3}
 use Rattle.promise.specs.Requests.{Request, asked, namedOn}
-use Rattle.promise.proofs.Demand3.{demand-3}
-
--- ---- the certificate of n pieces, computed
-lastFits : (ℕ → Task) → (ℕ → Piece) → ℕ → ℕ → Bool
-lastFits ts pc n q = not (isLast pc n q) || leb (bound ts pc n q) (localDeadline ts pc q)
-
-free : (ℕ → Task) → (ℕ → Piece) → ℕ → ℕ → Bool
-free ts pc n k = isLast pc n k || all n (λ j. not (above ts (pc j) (pc k)))
-
-certified-by : (ts : ℕ → Task) (pc : ℕ → Piece) (n : ℕ) → all n (λ q. lastFits ts pc n q && free ts pc n q) ≡ true → Certified ts pc n
-unfolding lastFits free
-certified-by ts pc n h = record {
-  within = λ q l z. leb-true _ _ (rw z at (both {a = lastFits ts pc n q} (all-each n _ h q l) .0));
-  top = λ j k l m z. not-true _ (all-each n _ (rw z at (both {a = lastFits ts pc n k} (all-each n _ h k m) .1)) j l);
-}
+use Rattle.promise.proofs.Demand3.{no-job-is-late}
 
 task : ℕ → ℕ → ℕ → Task
 task c d p = record { cost = c; deadline = d; period = p }
 
+tableOf : ℕ → List Task → Table
+tableOf m ts = record { cores = m; count = length ts; tasks = ts ++ replicate (64 - length ts) noTask }
+
+-- ---- P6: three cores, (6,10,10) five times
+six : Table
+unfolding task tableOf
+six = tableOf 3 (replicate 5 (task 6 10 10))
+
 piece : ℕ → ℕ → Kind → ℕ → Piece
 piece i x k e = record { task = taskNo i; core = coreNo x; kind = k; cost = e }
 
--- P6: three cores, (6,10,10) five times
-six : Plan
+sixPlan : Plan
 unfolding task piece
-six = record {
+sixPlan = record {
   cores = 3;
   count = 5;
   tasks = replicate 5 (task 6 10 10) ++ replicate 59 noTask;
@@ -67,13 +60,27 @@ six = record {
   pieces = (piece 0 0 Whole 6 ∷ piece 1 1 Whole 6 ∷ piece 2 2 Whole 6 ∷ piece 3 0 Share 4 ∷ piece 3 1 Share 2 ∷ piece 4 1 Share 2 ∷ piece 4 2 Share 4 ∷ []) ++ replicate 121 noPiece;
 }
 
-six-good : checkedPlan six ≡ Accepted
-unfolding six task piece checkedPlan checkedTasks shape pieceFits inOrder follows isLast costs all any first sum
-six-good = refl
+-- ---- slope: two heavy jobs, the slope fit (13,25,25) and the mask fit (11,30,30), are shared and meet on core 1
+slope : ℕ → List Task → Table
+unfolding task tableOf
+slope m more = tableOf m ((task 12 20 20 ∷ task 11 20 20 ∷ task 14 20 20 ∷ task 12 20 20 ∷ []) ++ more ++ task 13 25 25 ∷ task 11 30 30 ∷ [])
 
-six-kept : Demand3 six
-unfolding six task piece lastFits free bound load localDeadline costs interference above isLast all sum
-six-kept = demand-3 six six-good (certified-by (taskOf six) (pieceOf six) 7 refl)
+slopeFour : Table
+unfolding slope
+slopeFour = slope 4 []
+
+slopeEight : Table
+unfolding slope task
+slopeEight = slope 8 (task 12 20 20 ∷ task 13 20 20 ∷ task 14 20 20 ∷ task 12 20 20 ∷ [])
+
+-- the planner lays all three out
+laid-out : (planned six ≡ record { answer = Accepted; plan = sixPlan }) × (planned slopeFour .answer ≡ Accepted) × (planned slopeEight .answer ≡ Accepted)
+unfolding six sixPlan slopeFour slopeEight slope tableOf task piece planned start layFirst place takesWhole shareFrom giveShare close put limitOf allowance bound load localDeadline costs interference periods above all any first sum padded tabulate checkedTasks
+laid-out = (refl, refl, refl)
+
+-- so demand 3 holds for each
+kept : Demand3 sixPlan × Demand3 (planned slopeFour .plan) × Demand3 (planned slopeEight .plan)
+kept = (rw (laid-out .0) at (no-job-is-late six (rw (laid-out .0)) .1), no-job-is-late slopeFour (laid-out .1) .1, no-job-is-late slopeEight (laid-out .2) .1)
 
 -- ---- what the answers to a list of requests name on each core
 rows : Plan → State → List Request → List (List Runner)
@@ -93,7 +100,7 @@ row : ℕ → ℕ → ℕ → List Runner
 row a b c = Runs (taskNo a) ∷ Runs (taskNo b) ∷ Runs (taskNo c) ∷ []
 
 -- Task 4 is released when task 3 comes to its last share, on core 1, and holds it back there for two ticks.
-held-back : rows six freshState (releasing (0 ∷ 1 ∷ 2 ∷ 3 ∷ []) ∷ replicate 3 (releasing []) ++ releasing (4 ∷ []) ∷ replicate 5 (releasing []))
+held-back : rows sixPlan freshState (releasing (0 ∷ 1 ∷ 2 ∷ 3 ∷ []) ∷ replicate 3 (releasing []) ++ releasing (4 ∷ []) ∷ replicate 5 (releasing []))
     ≡ replicate 4 (row 3 1 2) ++ replicate 2 (row 0 4 2) ++ row 0 3 4 ∷ row 0 3 4 ∷ row 0 1 4 ∷ row 0 1 4 ∷ []
-unfolding six task piece rows tasksOf releasing row tick nextState judged judgedSets lowest wellMade coreWellMade jobWellMade finish markLate release run age countPreempted preempted eachJob highest firstPiece member padded tabulate count checkedPlan checkedTasks shape pieceFits inOrder follows isLast costs above all any first sum
+unfolding sixPlan task piece rows tasksOf releasing row tick nextState judged judgedSets lowest wellMade coreWellMade jobWellMade finish markLate release run age countPreempted preempted eachJob highest firstPiece member padded tabulate count checkedPlan checkedTasks shape pieceFits inOrder follows isLast costs above all any first sum
 held-back = refl
