@@ -21,11 +21,11 @@ use Rattle.dispatch.specs.declared.State.{State}
 use Rattle.promise.specs.Demand3.{OneCore, CoresRise}
 use Rattle.promise.specs.Model.{Stage, never, active, ended, older, onward, finish, run}
 use Rattle.promise.specs.Requests.{Request, asked, isAccepted, after, tally, namedOn, releases}
+use Rattle.promise.specs.View.{stageOf, modelOf}
 use Rattle.promise.proofs.Accepting.{Checked, plan-says}
 use Rattle.promise.proofs.Join.{stood, named-stands}
 use Rattle.promise.proofs.Rules.{ready, ready-stage, next-stage, next-last, next-idle}
 use Rattle.promise.proofs.Runs.{Passes, stepped, by-answer, getD-all}
-use Rattle.promise.specs.View.{stageOf, modelOf}
 use Rattle.promise.proofs.Sound.{next-piece}
 
 -- nothing is named in a refusal

@@ -3,7 +3,7 @@
 use mathlib.Core.Path.{_≡_, refl}
 use mathlib.Core.List.{List, [], _∷_, _++_, map}
 use Prim.Native.Nat.{ℕ, _-_}
-use lib.ListN.{length, replicate}
+use lib.ListN.{length, replicate, take, drop}
 use Rattle.tasks.specs.Below.{all, any, first, sum, count, tabulate, padded}
 use Rattle.tasks.specs.Tables.{taskNo, coreNo, noTask, checkedTasks}
 use Rattle.tasks.specs.declared.Answer.the-variants.{Accepted}
@@ -73,14 +73,26 @@ slopeEight : Table
 unfolding slope task
 slopeEight = slope 8 (task 12 20 20 ∷ task 13 20 20 ∷ task 14 20 20 ∷ task 12 20 20 ∷ [])
 
+-- the shares of the slope fit, task i, and of the mask fit, task j
+meeting : ℕ → ℕ → List Piece
+unfolding piece
+meeting i j = piece i 0 Share 8 ∷ piece i 1 Share 5 ∷ piece j 1 Share 4 ∷ piece j 2 Share 6 ∷ piece j 3 Share 1 ∷ []
+
 -- the planner lays all three out
-laid-out : (planned six ≡ record { answer = Accepted; plan = sixPlan }) × (planned slopeFour .answer ≡ Accepted) × (planned slopeEight .answer ≡ Accepted)
-unfolding six sixPlan slopeFour slopeEight slope tableOf task piece planned start layFirst place takesWhole shareFrom giveShare close put limitOf allowance bound load localDeadline costs interference periods above all any first sum padded tabulate checkedTasks
-laid-out = (refl, refl, refl)
+record LaidOut : Type 0 where
+  board : planned six ≡ record { answer = Accepted; plan = sixPlan }
+  four : planned slopeFour .answer ≡ Accepted
+  eight : planned slopeEight .answer ≡ Accepted
+  four-meet : take 5 (drop 4 (planned slopeFour .plan .pieces)) ≡ meeting 4 5
+  eight-meet : take 5 (drop 8 (planned slopeEight .plan .pieces)) ≡ meeting 8 9
+
+laid-out : LaidOut
+unfolding six sixPlan slopeFour slopeEight slope meeting tableOf task piece planned start layFirst place takesWhole shareFrom giveShare close put limitOf allowance bound load localDeadline costs interference periods above all any first sum padded tabulate checkedTasks
+laid-out = record { board = refl; four = refl; eight = refl; four-meet = refl; eight-meet = refl }
 
 -- so demand 3 holds for each
 kept : Demand3 sixPlan × Demand3 (planned slopeFour .plan) × Demand3 (planned slopeEight .plan)
-kept = (rw (laid-out .0) at (no-job-is-late six (rw (laid-out .0)) .1), no-job-is-late slopeFour (laid-out .1) .1, no-job-is-late slopeEight (laid-out .2) .1)
+kept = (rw (laid-out .board) at (no-job-is-late six (rw (laid-out .board)) .1), no-job-is-late slopeFour (laid-out .four) .1, no-job-is-late slopeEight (laid-out .eight) .1)
 
 -- ---- what the answers to a list of requests name on each core
 rows : Plan → State → List Request → List (List Runner)

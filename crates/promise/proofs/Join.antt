@@ -29,16 +29,16 @@ use Rattle.dispatch.specs.declared.Tasks.{Tasks}
 use Rattle.promise.specs.Model as model
 use Rattle.promise.specs.Model.{Stage, ended, at, May}
 use Rattle.promise.specs.Moments.{held, goes, goesAt, finished, released, ticked, tick, Accepted, Step}
+use Rattle.promise.specs.View.{stageOf, ranLast, momentOf, modelOf}
 use Rattle.promise.proofs.Accepting.{Checked, Passed}
 use Rattle.promise.proofs.Choice.{Picked, Picks, picks-named, highest-picks}
 use Rattle.promise.proofs.Rules.{Standing, ready, ready-stood, finish-stage, finish-stood, ready-stage, next-stage, next-last}
-use Rattle.promise.specs.View.{stageOf, ranLast, momentOf, modelOf}
 use Rattle.promise.proofs.Sound.{piece-fits}
 
 -- two tests that pass together are the same
 same-test : (a b : Bool) → (a ≡ true → b ≡ true) → (b ≡ true → a ≡ true) → a ≡ b
 same-test true b h k = sym (h refl)
-same-test false true h k = sym (sym (k refl))
+same-test false true h k = k refl
 same-test false false h k = refl
 
 -- a job is at piece j only while it is active

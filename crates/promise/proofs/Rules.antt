@@ -24,8 +24,8 @@ use Rattle.dispatch.specs.declared.Runner.the-variants.{Idle}
 use Rattle.dispatch.specs.declared.State.{State}
 use Rattle.dispatch.specs.declared.Tasks.{Tasks}
 use Rattle.promise.specs.Model as model
-use Rattle.promise.proofs.Accepting.{Checked}
 use Rattle.promise.specs.View.{stageOf, modelOf}
+use Rattle.promise.proofs.Accepting.{Checked}
 use Rattle.promise.proofs.Sound.{first-piece}
 
 -- ---- each rule on one job
