@@ -1,19 +1,17 @@
--- What an accepted plan and an accepted tick have passed.
+-- What an accepted tick has passed.
 use mathlib.Core.Path.{_≡_, refl}
 use mathlib.Core.Bool.{Bool, true, false, _&&_, cond}
-use Prim.Native.Nat.{ℕ, _≤_, _<_}
+use Prim.Native.Nat.{ℕ, _<_}
 use native.Mathlib.Omega.{arith}
 use Rattle.tasks.proofs.Below.{any-each}
-use Rattle.tasks.proofs.Tables.{GoodTable, Ranges, accepted-good}
 use Rattle.tasks.specs.Below.{first}
-use Rattle.tasks.specs.Tables.{taskNo, andThen, checkedTasks}
+use Rattle.tasks.specs.Tables.{taskNo, andThen}
 use Rattle.tasks.specs.declared.Answer.{Answer}
 use Rattle.tasks.specs.declared.Answer.the-variants.{Accepted, Refused}
 use Rattle.tasks.specs.declared.Refusal.{Refusal}
-use Rattle.tasks.specs.declared.Refusal.the-variants.{NoPlanShape, NotWellMade, NotRun, TooSoon, StillActive}
+use Rattle.tasks.specs.declared.Refusal.the-variants.{NotWellMade, NotRun, TooSoon, StillActive}
 use Rattle.tasks.specs.declared.TaskNo.{TaskNo}
-use Rattle.plans.specs.Pieces.{taskOf, pieceOf}
-use Rattle.plans.specs.Shape.{shape, checkedPlan}
+use Rattle.plans.specs.Shape.{checkedPlan}
 use Rattle.plans.specs.declared.Plan.{Plan}
 use Rattle.dispatch.specs.Refusing.{notRun, tooSoon, stillActive, lowest, judgedSets, judged}
 use Rattle.dispatch.specs.Rules.{finish}
@@ -37,23 +35,6 @@ passes false r h = refused-not h
 escapes : (b : Bool) (r : Refusal) (a : Answer) → cond b (Refused r) a ≡ Accepted → (b ≡ false) × (a ≡ Accepted)
 escapes true r a h = refused-not h
 escapes false r a h = (refl, h)
-
--- ---- an accepted plan
-pub record Checked (p : Plan) : Type 0 where
-  pub cores : p .cores ≤ 16
-  pub tasks : p .count ≤ 64
-  pub values : (i : ℕ) → i < p .count → Ranges (taskOf p i)
-  pub shaped : shape (p .cores) (p .count) (taskOf p) (pieceOf p) (p .placed) ≡ true
-
-pub plan-says : (p : Plan) → checkedPlan p ≡ Accepted → Checked p
-unfolding checkedPlan
-plan-says p h = record { cores = g .cores .1; tasks = g .tasks .1; values = g .values; shaped = passes _ NoPlanShape (t .1) }
-  where
-    t : (checkedTasks (p .cores) (p .count) (taskOf p) ≡ Accepted) × (cond (shape (p .cores) (p .count) (taskOf p) (pieceOf p) (p .placed)) Accepted (Refused NoPlanShape) ≡ Accepted)
-    t = then-says (checkedTasks (p .cores) (p .count) (taskOf p)) _ h
-
-    g : GoodTable (p .cores) (p .count) (taskOf p)
-    g = accepted-good (p .cores) (p .count) (taskOf p) (t .0)
 
 -- ---- an accepted tick
 pub record Passed (p : Plan) (s : State) (fs rs : Tasks) : Type 0 where

@@ -4,6 +4,7 @@ use mathlib.Core.Bool.{true}
 use mathlib.Core.List.{List}
 use Prim.Native.Nat.{ℕ, _+_, _<_}
 use Rattle.tasks.specs.declared.Answer.the-variants.{Accepted}
+use Rattle.plans.proofs.InShape.{accepted-plan}
 use Rattle.plans.specs.Pieces.{pieceOf, earlier}
 use Rattle.plans.specs.Shape.{isLast, checkedPlan}
 use Rattle.plans.specs.declared.Plan.{Plan}
@@ -14,7 +15,6 @@ use Rattle.promise.specs.Model.{Model, Sound, active}
 use Rattle.promise.specs.Moments.{Moment, Reached}
 use Rattle.promise.specs.Requests.{Request}
 use Rattle.promise.specs.View.{stageOf, momentOf, modelOf}
-use Rattle.promise.proofs.Accepting.{plan-says}
 use Rattle.promise.proofs.Runs.{reach}
 use Rattle.promise.proofs.Safe.{in-time-last}
 use Rattle.promise.proofs.Sound.{sound}
@@ -25,4 +25,4 @@ younger = in-time-last
 
 -- so it is in every state that requests lead to from the fresh one, for an accepted plan
 pub younger-job : (p : Plan) → checkedPlan p ≡ Accepted → (limit : ℕ → ℕ) → Certificate (modelOf p) limit → (qs : List Request) (q : ℕ) → q < p .placed → isLast (pieceOf p) (p .placed) q ≡ true → (a r : ℕ) → stageOf (jobOf (reached p qs) (pieceOf p q .task .0)) ≡ active a q r → a < earlier (pieceOf p) q + limit q
-younger-job p good limit C qs = younger (modelOf p) (sound p (plan-says p good)) limit C (momentOf p (reached p qs)) (reach p (plan-says p good) qs)
+younger-job p good limit C qs = younger (modelOf p) (sound p (accepted-plan p good)) limit C (momentOf p (reached p qs)) (reach p (accepted-plan p good) qs)

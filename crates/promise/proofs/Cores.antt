@@ -8,6 +8,7 @@ use native.Mathlib.Omega.{arith}
 use lib.Dec.{ltb}
 use lib.ListN.{getD, replicate}
 use Rattle.tasks.proofs.Bools.{clash}
+use Rattle.plans.proofs.InShape.{GoodPlan, accepted-plan}
 use Rattle.plans.specs.Pieces.{pieceOf}
 use Rattle.plans.specs.declared.Plan.{Plan}
 use Rattle.dispatch.specs.Jobs.{noRun, jobOf, lastOf, isActive, names}
@@ -22,7 +23,6 @@ use Rattle.promise.specs.Demand3.{OneCore, CoresRise}
 use Rattle.promise.specs.Model.{Stage, never, active, ended, older, onward, finish, run}
 use Rattle.promise.specs.Requests.{Request, asked, isAccepted, after, tally, namedOn, releases}
 use Rattle.promise.specs.View.{stageOf, modelOf}
-use Rattle.promise.proofs.Accepting.{Checked, plan-says}
 use Rattle.promise.proofs.Join.{stood, named-stands}
 use Rattle.promise.proofs.Rules.{ready, ready-stage, next-stage, next-last, next-idle}
 use Rattle.promise.proofs.Runs.{Passes, stepped, by-answer, getD-all}
@@ -33,8 +33,8 @@ refused-names : {A : Type 0} (i x : ℕ) → names i (getD (replicate 16 noRun) 
 refused-names i x e = clash e (ap (λ (r : CoreRun). names i (r .runner)) (getD-all 16 x noRun))
 
 module _ (p : Plan) (s : State) (q : Request) (ok : Passes p s q) where
-  checked : Checked p
-  checked = plan-says p (ok .plan)
+  checked : GoodPlan p
+  checked = accepted-plan p (ok .plan)
 
   -- the state from which the runners are chosen
   abbrev before : State
@@ -59,7 +59,7 @@ From p x never = Unit {0}
 From p x (active a k r) = (k < p .placed) × (x ≤ pieceOf p k .core .0)
 From p x (ended a) = Unit {0}
 
-from-run : (p : Plan) → Checked p → (x i : ℕ) (b : Bool) (o : Stage) → From p x o → From p x (run (modelOf p) i b o)
+from-run : (p : Plan) → GoodPlan p → (x i : ℕ) (b : Bool) (o : Stage) → From p x o → From p x (run (modelOf p) i b o)
 unfolding run older onward
 from-run p c x i b never h = tt
 from-run p c x i b (ended a) h = tt

@@ -6,6 +6,7 @@ use Prim.Native.Nat.{ℕ}
 use native.Mathlib.Omega.{arith}
 use Rattle.tasks.specs.declared.Answer.the-variants.{Accepted}
 use Rattle.tasks.specs.declared.Table.{Table}
+use Rattle.plans.proofs.InShape.{GoodPlan, accepted-plan}
 use Rattle.plans.proofs.Rank.{above-self, above-chain}
 use Rattle.plans.specs.Bound.{localDeadline, load, bound}
 use Rattle.plans.specs.Certificate.{Certified}
@@ -18,15 +19,14 @@ use Rattle.promise.specs.Certificate.{Certificate, Timely}
 use Rattle.promise.specs.Demand3.{Demand3, PlanOf}
 use Rattle.promise.specs.Requests.{after}
 use Rattle.promise.specs.View.{modelOf}
-use Rattle.promise.proofs.Accepting.{Checked, plan-says}
 use Rattle.promise.proofs.Cores.{one-core, cores-rise}
 use Rattle.promise.proofs.Planned.{Placed, planned-placed}
 use Rattle.promise.proofs.Runs.{after-append, due-over, none-late}
 use Rattle.promise.proofs.Sound.{piece-fits, within-cost}
 
 module _ (p : Plan) (good : checkedPlan p ≡ Accepted) where
-  checked : Checked p
-  checked = plan-says p good
+  checked : GoodPlan p
+  checked = accepted-plan p good
 
   -- any limits that are certified and within the deadlines
   pub by-limits : (limit : ℕ → ℕ) → Certificate (modelOf p) limit → Timely (modelOf p) limit (λ i. taskOf p i .deadline) → Demand3 p
@@ -44,7 +44,7 @@ module _ (p : Plan) (good : checkedPlan p ≡ Accepted) where
   unfolding localDeadline bound load
   demand-3 C = by-limits (localDeadline (taskOf p) (pieceOf p))
       (record { strict = λ j. above-self (taskOf p) (pieceOf p j); chain = λ i j k. above-chain (taskOf p) (pieceOf p i) (pieceOf p j) (pieceOf p k); top = C .top; bound = C .within })
-      (λ q h z. omega (arith, within-cost p checked q h, checked .values _ (piece-fits p checked q h .task)))
+      (λ q h z. omega (arith, within-cost p checked q h, checked .table .values _ (piece-fits p checked q h .task)))
 
 -- For every table for which the planner answers with a plan: it is a plan of that table, and no job is late.
 pub no-job-is-late : (t : Table) → planned t .answer ≡ Accepted → PlanOf t (planned t .plan) × Demand3 (planned t .plan)

@@ -10,6 +10,7 @@ use borrow.Author.Tests.{eq-eqb, ne-eqb, eqb-true, eqb-false, ltb-false, not-fal
 use Rattle.tasks.proofs.Below.{any-found, any-make, any-none, any-same, Found}
 use Rattle.tasks.proofs.Bools.{both, both-make, clash, neither}
 use Rattle.tasks.specs.Below.{any}
+use Rattle.plans.proofs.InShape.{GoodPlan}
 use Rattle.plans.proofs.Rank.{above-core, above-one-way, above-self}
 use Rattle.plans.specs.Pieces.{taskOf, pieceOf}
 use Rattle.plans.specs.Rank.{above}
@@ -30,7 +31,7 @@ use Rattle.promise.specs.Model as model
 use Rattle.promise.specs.Model.{Stage, ended, at, May}
 use Rattle.promise.specs.Moments.{held, goes, goesAt, finished, released, ticked, tick, Accepted, Step}
 use Rattle.promise.specs.View.{stageOf, ranLast, momentOf, modelOf}
-use Rattle.promise.proofs.Accepting.{Checked, Passed}
+use Rattle.promise.proofs.Accepting.{Passed}
 use Rattle.promise.proofs.Choice.{Picked, Picks, picks-named, highest-picks}
 use Rattle.promise.proofs.Rules.{Standing, ready, ready-stood, finish-stage, finish-stood, ready-stage, next-stage, next-last}
 use Rattle.promise.proofs.Sound.{piece-fits}
@@ -60,7 +61,7 @@ at-make o h = go (o .phase) refl
     go Ended e = clash refl (sym (rw e at h))
     go Active e = rw e (eq-eqb (o .piece) _ refl)
 
-module _ (p : Plan) (c : Checked p) (t : State) (stood : (i : ℕ) → i < p .count → isActive (jobOf t i .phase) ≡ true → Standing p i (jobOf t i)) where
+module _ (p : Plan) (c : GoodPlan p) (t : State) (stood : (i : ℕ) → i < p .count → isActive (jobOf t i .phase) ≡ true → Standing p i (jobOf t i)) where
   -- the task picked on the core of task i's piece
   picks : (x : ℕ) → Picks p t x (p .count) (highest p t x (p .count))
   picks x = highest-picks p t (λ i h a. stood i h a .own) x (p .count) (le-refl _)
@@ -145,7 +146,7 @@ module _ (p : Plan) (c : Checked p) (t : State) (stood : (i : ℕ) → i < p .co
         go Ended e = rw e
         go Active e = rw e (names-free i h (rw e) (highest p t (pieceAt p t i .core .0) (p .count)) (picks (pieceAt p t i .core .0)))
 
-module _ (p : Plan) (c : Checked p) (fs rs : Tasks) (s : State) (ok : Passed p s fs rs) where
+module _ (p : Plan) (c : GoodPlan p) (fs rs : Tasks) (s : State) (ok : Passed p s fs rs) where
   -- the jobs from which the runners are chosen
   abbrev pub stages : ℕ → Stage
   stages = released (modelOf p) (member rs) (finished (modelOf p) (member fs) (momentOf p s .stage))
@@ -172,12 +173,12 @@ module _ (p : Plan) (c : Checked p) (fs rs : Tasks) (s : State) (ok : Passed p s
   accepts : Accepted (modelOf p) (member fs) (member rs) (momentOf p s)
   unfolding finished
   accepts = record {
-    ended = λ i h m. both {a = ltb i (p .count)} (not-false _ (ok .ran i (omega (arith, c .tasks)) m)) .1;
+    ended = λ i h m. both {a = ltb i (p .count)} (not-false _ (ok .ran i (omega (arith, c .table .tasks .1)) m)) .1;
     begun = begun;
   }
     where
       begun : (i : ℕ) → i < p .count → member rs i ≡ true → May (modelOf p) i (cond (member fs i) (model.finish (stageOf (jobOf s i))) (stageOf (jobOf s i)))
-      begun i h m = rw (← finish-stage p c fs s i h) (may i (jobOf (finish p fs s) i) (finish-stood p c fs s i (ok .made) h) (neither {a = not (ltb i (p .count))} (ok .old i (omega (arith, c .tasks)) m) .1) (ok .over i (omega (arith, c .tasks)) m))
+      begun i h m = rw (← finish-stage p c fs s i h) (may i (jobOf (finish p fs s) i) (finish-stood p c fs s i (ok .made) h) (neither {a = not (ltb i (p .count))} (ok .old i (omega (arith, c .table .tasks .1)) m) .1) (ok .over i (omega (arith, c .table .tasks .1)) m))
 
   -- the tasks named in the answer are those that ran
   pub named-goes : (i : ℕ) → i < p .count → ranLast p (nextState p fs rs s) i ≡ goes (modelOf p) stages i

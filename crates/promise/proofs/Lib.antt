@@ -3,7 +3,6 @@ pub mod Room
 pub mod Stage
 pub mod Own
 pub mod Safe
-pub mod Shape
 pub mod Accepting
 pub mod Sound
 pub mod Choice

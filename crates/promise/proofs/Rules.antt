@@ -9,6 +9,7 @@ use borrow.Author.Tests.{ltb-true, eqb-true, leb-true}
 use Rattle.tasks.proofs.Below.{all-each}
 use Rattle.tasks.proofs.Bools.{both, clash}
 use Rattle.tasks.proofs.Padded.{padded-in, padded-out}
+use Rattle.plans.proofs.InShape.{GoodPlan}
 use Rattle.plans.specs.Pieces.{taskOf, pieceOf}
 use Rattle.plans.specs.Shape.{isLast}
 use Rattle.plans.specs.declared.Plan.{Plan}
@@ -25,7 +26,6 @@ use Rattle.dispatch.specs.declared.State.{State}
 use Rattle.dispatch.specs.declared.Tasks.{Tasks}
 use Rattle.promise.specs.Model as model
 use Rattle.promise.specs.View.{stageOf, modelOf}
-use Rattle.promise.proofs.Accepting.{Checked}
 use Rattle.promise.proofs.Sound.{first-piece}
 
 -- ---- each rule on one job
@@ -116,7 +116,7 @@ marked-stood p i j h = go (turnsLate p i j)
     go true a = let t : Standing p i j = h a in record { known = t .known; own = t .own; young = t .young }
     go false a = h a
 
-released-stood : (p : Plan) → Checked p → (rs : Tasks) (i : ℕ) (j : Job) → i < p .count → Stood p i j → Stood p i (releasedJob p rs i j)
+released-stood : (p : Plan) → GoodPlan p → (rs : Tasks) (i : ℕ) (j : Job) → i < p .count → Stood p i j → Stood p i (releasedJob p rs i j)
 released-stood p c rs i j l h = go (member rs i)
   where
     go : (b : Bool) → Stood p i (cond b (record { phase = Active; late = false; piece = firstPiece p i; age = 0; ran = 0 }) j)
@@ -124,10 +124,10 @@ released-stood p c rs i j l h = go (member rs i)
     go false a = h a
 
 -- ---- the jobs and cores of the states between the rules
-module _ (p : Plan) (c : Checked p) where
+module _ (p : Plan) (c : GoodPlan p) where
   each-job : (f : ℕ → Job → Job) (s : State) (i : ℕ) → i < p .count → jobOf (eachJob p f s) i ≡ f i (jobOf s i)
   unfolding eachJob
-  each-job f s i h = padded-in 64 noJob (p .count) (λ i. f i (jobOf s i)) i h (omega (arith, c .tasks))
+  each-job f s i h = padded-in 64 noJob (p .count) (λ i. f i (jobOf s i)) i h (omega (arith, c .table .tasks .1))
 
   pub finish-job : (fs : Tasks) (s : State) (i : ℕ) → i < p .count → jobOf (finish p fs s) i ≡ finishedJob fs i (jobOf s i)
   unfolding finish
@@ -158,7 +158,7 @@ module _ (p : Plan) (c : Checked p) where
 
     pub next-last : (x : ℕ) → x < p .cores → lastOf (nextState p fs rs s) x ≡ highest p ready x (p .count)
     unfolding nextState age countPreempted run eachJob
-    next-last x h = ap (λ r. r .runner) (padded-in 16 noRun (p .cores) (chosen p ready) x h (omega (arith, c .cores)))
+    next-last x h = ap (λ r. r .runner) (padded-in 16 noRun (p .cores) (chosen p ready) x h (omega (arith, c .table .cores .1)))
 
     pub next-idle : (x : ℕ) → p .cores ≤ x → lastOf (nextState p fs rs s) x ≡ Idle
     unfolding nextState age countPreempted run eachJob

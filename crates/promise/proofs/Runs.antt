@@ -13,6 +13,7 @@ use Rattle.tasks.specs.Below.{any, count}
 use Rattle.tasks.specs.declared.Answer.{Answer}
 use Rattle.tasks.specs.declared.Answer.the-variants.{Accepted, Refused}
 use Rattle.tasks.specs.declared.Refusal.{Refusal}
+use Rattle.plans.proofs.InShape.{GoodPlan}
 use Rattle.plans.specs.Pieces.{taskOf, pieceOf}
 use Rattle.plans.specs.declared.Plan.{Plan}
 use Rattle.dispatch.specs.Jobs.{noJob, noRun, jobOf, names, freshState}
@@ -32,7 +33,7 @@ use Rattle.promise.specs.Moments as moments
 use Rattle.promise.specs.Moments.{fresh, finished, released, goes, Reached, start, next}
 use Rattle.promise.specs.Requests.{Request, asked, isAccepted, after, tally, namedOn, ticks, timesNamed, finishes}
 use Rattle.promise.specs.View.{stageOf, ranLast, momentOf, modelOf}
-use Rattle.promise.proofs.Accepting.{Checked, Passed, tick-says}
+use Rattle.promise.proofs.Accepting.{Passed, tick-says}
 use Rattle.promise.proofs.Join.{stages, named-goes, tick-step}
 use Rattle.promise.proofs.Rules.{finish-stage}
 use Rattle.promise.proofs.Safe.{inv-reached, in-time, never-late}
@@ -79,7 +80,7 @@ getD-all zero (suc i) a = refl
 getD-all (suc n) zero a = refl
 getD-all (suc n) (suc i) a = getD-all n i a
 
-module _ (p : Plan) (c : Checked p) where
+module _ (p : Plan) (c : GoodPlan p) where
   fresh-reached : Reached (modelOf p) (momentOf p freshState)
   unfolding fresh
   fresh-reached = start (record { stages = λ i h. ap stageOf (getD-all 64 i noJob); runs = λ i h. any-none (p .cores) _ (λ x l. ap (λ (r : CoreRun). names i (r .runner)) (getD-all 16 x noRun)) })
@@ -111,7 +112,7 @@ module _ (p : Plan) (c : Checked p) where
     grown-tick i x f w h s q r ok l v = grown-by i _ _ w h s q ok (since-tick (modelOf p) (sound p c) (λ i. taskOf p i .cost) (within-cost p c) (full-cost p c) i h (member (q .finished)) (member (q .released)) (momentOf p s) (tick-step p c (q .finished) (q .released) s ok .accepted) (steady i h s r) x f w l v)
 
     grown-release : (i : ℕ) → i < p .count → (s : State) (q : Request) → Reached (modelOf p) (momentOf p s) → Passes p s q → member (q .released) i ≡ true → Grown i 1 0 (0 + one (ranLast p (stepped p s q) i)) (stepped p s q)
-    grown-release i h s q r ok m = grown-by i _ _ 0 h s q ok (since-release (modelOf p) (sound p c) (λ i. taskOf p i .cost) (within-cost p c) (full-cost p c) i h (member (q .finished)) (member (q .released)) (momentOf p s) (tick-step p c (q .finished) (q .released) s ok .accepted) (steady i h s r) (omega (arith, c .values i h)) m)
+    grown-release i h s q r ok m = grown-by i _ _ 0 h s q ok (since-release (modelOf p) (sound p c) (λ i. taskOf p i .cost) (within-cost p c) (full-cost p c) i h (member (q .finished)) (member (q .released)) (momentOf p s) (tick-step p c (q .finished) (q .released) s ok .accepted) (steady i h s r) (omega (arith, c .table .values i h)) m)
 
     -- a list of requests more
     grown-after : (i : ℕ) → i < p .count → (qs : List Request) (s : State) (x f w : ℕ) → Reached (modelOf p) (momentOf p s) → x + ticks p s qs ≤ taskOf p i .period → Grown i x f w s → Grown i (x + ticks p s qs) (f + finishes i p s qs) (w + timesNamed i p s qs) (after p s qs)
@@ -125,7 +126,7 @@ module _ (p : Plan) (c : Checked p) where
 
     -- a task's pieces fit into its deadline
     whole : (k : ℕ) → k < p .placed → modelOf p .off k + pieceOf p k .cost ≤ taskOf p (pieceOf p k .task .0) .deadline
-    whole k h = omega (arith, within-cost p c k h, c .values _ (piece-fits p c k h .task))
+    whole k h = omega (arith, within-cost p c k h, c .table .values _ (piece-fits p c k h .task))
 
     -- a job that is as old as its deadline has ended
     old-ended : (i f w : ℕ) → i < p .count → (t : State) → Reached (modelOf p) (momentOf p t) → Grown i (taskOf p i .deadline) f w t → (jobOf t i .phase ≡ Ended) × Why (taskOf p i .cost) f w
@@ -156,7 +157,7 @@ module _ (p : Plan) (c : Checked p) where
         yield : Passes p s q → true ≡ true → 1 + ticks p n later ≡ taskOf p i .deadline → (jobOf (after p n later) i .phase ≡ Ended) × Why (taskOf p i .cost) (finishes i p n later) (one (ranLast p n i) + timesNamed i p n later)
         yield ok a e =
             let r : Reached (modelOf p) (momentOf p n) = next _ _ (reach before) (tick-step p c (q .finished) (q .released) s ok) in
-            old-ended i _ _ (d .task) (after p n later) (reach-on later n r) (grown-same i (after p n later) e (omega arith) (omega arith) (grown-after i (d .task) later n 1 0 (0 + one (ranLast p n i)) r (omega (arith, e, c .values i (d .task))) (grown-release i (d .task) s q (reach before) ok (d .released))))
+            old-ended i _ _ (d .task) (after p n later) (reach-on later n r) (grown-same i (after p n later) e (omega arith) (omega arith) (grown-after i (d .task) later n 1 0 (0 + one (ranLast p n i)) r (omega (arith, e, c .table .values i (d .task))) (grown-release i (d .task) s q (reach before) ok (d .released))))
 
     -- ---- rule 2 marks no job
     none-turns : (s : State) (fs : Tasks) → Reached (modelOf p) (momentOf p s) → (i : ℕ) → i < p .count → turnsLate p i (jobOf (finish p fs s) i) ≡ false

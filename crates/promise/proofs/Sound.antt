@@ -5,6 +5,7 @@ use Prim.Native.Nat.{ℕ, suc, _+_, _≤_, _<_}
 use native.Mathlib.Omega.{arith}
 use borrow.Author.Tests.{eq-eqb}
 use Rattle.tasks.proofs.Below.{first-le}
+use Rattle.plans.proofs.InShape.{GoodPlan, fits, follower, earlier-within, Begins, begins}
 use Rattle.plans.proofs.Shaped.{Fits}
 use Rattle.plans.proofs.Sums.{costs-own}
 use Rattle.plans.specs.Pieces.{taskOf, pieceOf, costs}
@@ -13,10 +14,8 @@ use Rattle.plans.specs.declared.Plan.{Plan}
 use Rattle.dispatch.specs.Rules.{firstPiece}
 use Rattle.promise.specs.Model.{Sound}
 use Rattle.promise.specs.View.{modelOf}
-use Rattle.promise.proofs.Accepting.{Checked}
-use Rattle.promise.proofs.Shape.{fits, follower, costs-within, Begins, begins}
 
-module _ (p : Plan) (c : Checked p) where
+module _ (p : Plan) (c : GoodPlan p) where
   pub piece-fits : (j : ℕ) → j < p .placed → Fits (p .cores) (p .count) (taskOf p) (pieceOf p) (p .placed) j
   piece-fits = fits (p .cores) (p .count) (taskOf p) (pieceOf p) (p .placed) (c .shaped)
 
@@ -25,7 +24,7 @@ module _ (p : Plan) (c : Checked p) where
 
   -- the costs up to a piece are within its task's cost
   pub within-cost : (j : ℕ) → j < p .placed → modelOf p .off j + pieceOf p j .cost ≤ taskOf p (pieceOf p j .task .0) .cost
-  within-cost j h = omega (arith, costs-own (pieceOf p) j, costs-within (p .cores) (p .count) (taskOf p) (pieceOf p) (p .placed) (c .shaped) j h)
+  within-cost = earlier-within (p .cores) (p .count) (taskOf p) (pieceOf p) (p .placed) (c .shaped)
 
   -- the costs up to a last piece are the task's cost
   pub full-cost : (j : ℕ) → j < p .placed → isLast (pieceOf p) (p .placed) j ≡ true → modelOf p .off j + pieceOf p j .cost ≡ taskOf p (pieceOf p j .task .0) .cost
@@ -42,7 +41,7 @@ module _ (p : Plan) (c : Checked p) where
   unfolding firstPiece
   sound = record {
     some = λ j h. piece-fits j h .cost;
-    inside = λ j h. omega (arith, within-cost j h, c .values _ (piece-fits j h .task));
+    inside = λ j h. omega (arith, within-cost j h, c .table .values _ (piece-fits j h .task));
     next = next;
     begins = λ i h. let b : (firstPiece p i < p .placed) × (pieceOf p (firstPiece p i) .task .0 ≡ i) × (costs (pieceOf p) i (firstPiece p i) ≡ 0) = first-piece i h in (b .0, b .1, rw (b .1) (b .2));
     owned = λ j h. piece-fits j h .task;
