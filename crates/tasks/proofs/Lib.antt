@@ -3,5 +3,4 @@ pub mod Below
 pub mod Padded
 pub mod Tables
 pub mod Tabulate
-pub mod Counts
 pub mod Counting
