@@ -59,7 +59,8 @@ impl TaskNo {
     pub fn index(self) -> usize
         ensures { λ r. ⌜ (r ≡ self .0) × (r < 256) ⌝ }
     {
-        self.0 as usize
+        let task = self.0;
+        task as usize
     }
 }
 
@@ -68,7 +69,8 @@ impl CoreNo {
     pub fn index(self) -> usize
         ensures { λ r. ⌜ (r ≡ self .0) × (r < 256) ⌝ }
     {
-        self.0 as usize
+        let core = self.0;
+        core as usize
     }
 }
 
