@@ -12,3 +12,6 @@ pub mod Allowed
 pub mod Putting
 pub mod Searching
 pub mod Placing
+pub mod Shape
+pub mod Certified
+pub mod Refusal

@@ -10,7 +10,7 @@ use lib.Dec.{leb, eqb}
 use lib.ListN.{length}
 use borrow.Author.Tests.{eq-eqb, ne-eqb, le-leb, leb-true, not-true}
 use Rattle.tasks.proofs.Below.{all-each, all-make, sum-none}
-use Rattle.tasks.proofs.Bools.{clash, both, both-make}
+use Rattle.tasks.proofs.Bools.{clash, both, both-make, right-one}
 use Rattle.tasks.proofs.Tables.{Ranges}
 use Rattle.tasks.specs.Below.{all, sum}
 use Rattle.tasks.specs.declared.Task.{Task}
@@ -71,3 +71,42 @@ module _ (i : ℕ) (d : Draft) (R : Ready i d) (known : i < d .plan .count) (x :
         (laid-done _ _ _ _ _ _ i _ 0 (R .laid) z (pieceOf v) (put-old z (d .plan)) (put-new z (d .plan) inside) _ (λ c e. e) known refl
         (λ k h e. absurd (omega (arith, R .laid .shares k h e .1))) here (not-true _ (tests .0)) (r .some) (le-refl _) (λ q h b o. older q h o _ refl)
         (tested (d .plan .placed) (le-refl _) (rw (put-new z (d .plan) inside)) (rw (put-new z (d .plan) inside))) refl (omega (arith, R .laid .few)))
+
+  -- no piece is on core x, and it is open
+  module _ (free : isClosed (d .closed) x ≡ false) (empty : (q : ℕ) → q < d .plan .placed → pieceOf (d .plan) q .core .0 ≡ x → ⊥) where
+    n : ℕ
+    n = d .plan .placed
+
+    -- then nothing ranks above the task there
+    empty-alone : (j : ℕ) → j < suc n → above (taskOf (d .plan)) (pieceOf v j) z ≡ false
+    unfolding v n z
+    empty-alone j h = go (ℕ-discrete j n)
+      where
+        by : (b : Bool) → j < n → above (taskOf (d .plan)) (pieceOf (d .plan) j) z ≡ b → above (taskOf (d .plan)) (pieceOf (d .plan) j) z ≡ false
+        by false l e = e
+        by true l e = absurd (empty j l (above-core (taskOf (d .plan)) (pieceOf (d .plan) j) z e))
+
+        go : Dec (j ≡ n) → above (taskOf (d .plan)) (pieceOf v j) z ≡ false
+        go (yes e) = rw (e, put-new z (d .plan) inside) (above-self (taskOf (d .plan)) z)
+        go (no e) = rw (put-old z (d .plan) j (omega arith)) (by _ (omega arith) refl)
+
+    empty-load : (L : ℕ) → load (taskOf (d .plan)) (pieceOf v) (suc n) z L ≡ 0
+    unfolding load
+    empty-load L = sum-none (suc n) _ (λ j h. rw (empty-alone j h))
+
+    empty-own : bound (taskOf (d .plan)) (pieceOf v) (suc n) n ≤ localDeadline (taskOf (d .plan)) (pieceOf v) n
+    unfolding bound localDeadline v n z
+    empty-own = rw (put-new z (d .plan) inside) (omega (arith, empty-load (taskOf (d .plan) i .deadline - costs (pieceOf v) i n), costs-kept (pieceOf (d .plan)) (pieceOf v) n (put-old z (d .plan)) i n (le-refl n), R .laid .left, r .short))
+
+    -- an empty core takes every task whole
+    pub empty-takes : takesWhole d i x ≡ true
+    unfolding takesWhole put v z n
+    empty-takes = both-make (ap not free) (all-make (d .plan .placed + 1) (keepsBound v x) (λ q h. each q h (ℕ-discrete q n)))
+      where
+        each : (q : ℕ) → q < d .plan .placed + 1 → Dec (q ≡ n) → keepsBound v x q ≡ true
+        each q h (yes e) =
+            let o : bound (taskOf (d .plan)) (pieceOf v) (d .plan .placed + 1) q ≤ localDeadline (taskOf (d .plan)) (pieceOf v) q = rw (e, add-one) empty-own in
+            right-one (not (eqb (pieceOf v q .core .0) x) || isShare (pieceOf v q .kind)) (le-leb _ _ o)
+        each q h (no e) =
+            let c : pieceOf v q .core .0 ≡ x → ⊥ = λ p. empty q (omega arith) (rw (put-old z (d .plan) q (omega arith)) at p) in
+            rw (ne-eqb (pieceOf v q .core .0) x c)

@@ -1,0 +1,98 @@
+-- Every plan that the planner makes: it is over the table's cores and tasks, its pieces are few, it has the plan shape, and it has the certificate.
+use mathlib.Core.Path.{_≡_, refl, sym, _∙_, subst}
+use mathlib.Core.Bool.{true, false}
+use Prim.Native.Nat.{ℕ, _+_, _≤_, _<_}
+use native.Mathlib.Nat.{le-refl}
+use native.Mathlib.Omega.{arith}
+use borrow.Author.Tests.{le-leb}
+use Rattle.tasks.proofs.Bools.{both-make}
+use Rattle.tasks.proofs.Padded.{padded-out}
+use Rattle.tasks.proofs.Tables.{GoodTable, Ranges, values-last, all-good}
+use Rattle.tasks.specs.Tables.{noTask, valuesFit, checkedTasks, checkedTable}
+use Rattle.tasks.specs.Tables as table
+use Rattle.tasks.specs.declared.Answer.{Answer}
+use Rattle.tasks.specs.declared.Answer.the-variants.{Accepted, Refused}
+use Rattle.tasks.specs.declared.Refusal.{Refusal}
+use Rattle.tasks.specs.declared.Table.{Table}
+use Rattle.tasks.specs.declared.Task.{Task}
+use Rattle.plans.proofs.Shaped.{shape-accepted}
+use Rattle.plans.specs.Bound.{localDeadline, bound}
+use Rattle.plans.specs.Certificate.{Certified}
+use Rattle.plans.specs.Pieces.{taskOf, pieceOf, CleanPlan}
+use Rattle.plans.specs.Shape.{checkedPlan}
+use Rattle.plans.specs.declared.Plan.{Plan}
+use Rattle.layout.specs.Layout.{start, layFirst, Laying, laid, stuck, outcome, ifGood, planned}
+use Rattle.layout.specs.declared.Draft.{Draft}
+use Rattle.layout.proofs.Drafts.{Drafted, Ready, drafted-room}
+use Rattle.layout.proofs.Keeps.{Keeps, lay-keeps}
+use Rattle.layout.proofs.Reached.{lay-ready, lay-few}
+use Rattle.layout.proofs.Shape.{laid-shape}
+
+-- a good table is accepted
+good-accepted : (m n : ℕ) (ts : ℕ → Task) → GoodTable m n ts → checkedTasks m n ts ≡ Accepted
+good-accepted m n ts g = all-good m n ts (both-make (le-leb 1 m (g .cores .0)) (le-leb m 16 (g .cores .1))) (both-make (le-leb 1 n (g .tasks .0)) (le-leb n 64 (g .tasks .1))) (λ k h. fits (ts k) (g .values k h))
+  where
+    fits : (t : Task) → Ranges t → valuesFit t ≡ true
+    fits t r = sym (values-last t (r .some) (r .short) (r .inside)) ∙ le-leb (t .period) 1000000 (r .most)
+
+-- a draft in which every task is laid out has the plan shape
+ready-shape : (d : Draft) → Ready (d .plan .count) d → checkedPlan (d .plan) ≡ Accepted
+ready-shape d R = shape-accepted (d .plan) (good-accepted _ _ _ (R .good)) (laid-shape _ _ _ _ _ _ _ (R .laid) (R .good .tasks .0) (omega (arith, drafted-room _ _ 0 d R (le-refl _))))
+
+-- an accepted table is good, and its plan is that of the draft in which all its tasks are laid out
+pub record Planning (t : Table) : Type 0 where
+  pub good : checkedTable t ≡ Accepted
+  pub draft : Draft
+  pub lays : layFirst (start t) (t .count) ≡ laid draft
+  pub plan : planned t .plan ≡ draft .plan
+
+pub refused-accepted : {A : Type 0} {r : Refusal} → Refused r ≡ Accepted → A
+refused-accepted e = let z : _≡_ {A = ℕ} 0 1 = cc in absurd (omega arith)
+
+pub accepted-planning : (t : Table) → planned t .answer ≡ Accepted → Planning t
+unfolding planned
+accepted-planning t h = go _ refl _ refl
+  where
+    go : (a : Answer) → checkedTable t ≡ a → (l : Laying) → layFirst (start t) (t .count) ≡ l → Planning t
+    go (Refused r) p l q = refused-accepted (rw p at h)
+    go Accepted p (stuck k) q = refused-accepted (rw (p, q) at h)
+    go Accepted p (laid d) q = record { good = p; draft = d; lays = q; plan = rw (p, q) }
+
+module _ (t : Table) (accepted : planned t .answer ≡ Accepted) where
+  P : Planning t
+  P = accepted-planning t accepted
+
+  R : Ready (t .count) (P .draft)
+  R = lay-ready t (P .good) (t .count) (le-refl _) (P .draft) (P .lays)
+
+  K : Keeps (start t .plan) (P .draft .plan)
+  K = lay-keeps (start t) (t .count) (P .draft) (P .lays)
+
+  -- the plan is over the table's cores and tasks
+  pub planned-keeps : Keeps (start t .plan) (planned t .plan)
+  planned-keeps = rw (P .plan) K
+
+  -- it has at most a piece for each task and one for each core
+  pub planned-few : planned t .plan .placed ≤ t .count + t .cores
+  planned-few = rw (P .plan) (lay-few t (P .good) (t .count) (le-refl _) (P .draft) (P .lays))
+
+  -- the entries past its counts are 0
+  pub planned-clean : CleanPlan (planned t .plan)
+  unfolding start
+  planned-clean = rw (P .plan) (record {
+    tasks = λ i h. rw (K .tasks) (padded-out 64 noTask (t .count) (table.taskOf t) i (omega (arith, K .count)));
+    pieces = R .clean;
+  })
+
+  -- it is a good table's plan and has the plan shape
+  pub planned-shape : checkedPlan (planned t .plan) ≡ Accepted
+  unfolding start
+  planned-shape = rw (P .plan) (ready-shape (P .draft) (subst (λ (n : ℕ). Ready n (P .draft)) (sym (K .count)) R))
+
+  -- every piece's bound is within its local deadline
+  pub planned-within : (q : ℕ) → q < planned t .plan .placed → bound (taskOf (planned t .plan)) (pieceOf (planned t .plan)) (planned t .plan .placed) q ≤ localDeadline (taskOf (planned t .plan)) (pieceOf (planned t .plan)) q
+  planned-within = rw (P .plan) (R .laid .within)
+
+  -- it has the certificate
+  pub planned-certified : Certified (taskOf (planned t .plan)) (pieceOf (planned t .plan)) (planned t .plan .placed)
+  planned-certified = rw (P .plan) (record { within = λ q h z. R .laid .within q h; top = λ j k a b z. R .laid .tops k b z .alone j a })
