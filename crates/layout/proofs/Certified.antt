@@ -1,6 +1,6 @@
 -- Every plan that the planner makes: it is over the table's cores and tasks, its pieces are few, it has the plan shape, and it has the certificate.
 use mathlib.Core.Path.{_≡_, refl, sym, _∙_, subst}
-use mathlib.Core.Bool.{true, false}
+use mathlib.Core.Bool.{true}
 use Prim.Native.Nat.{ℕ, _+_, _≤_, _<_}
 use native.Mathlib.Nat.{le-refl}
 use native.Mathlib.Omega.{arith}
@@ -21,9 +21,9 @@ use Rattle.plans.specs.Certificate.{Certified}
 use Rattle.plans.specs.Pieces.{taskOf, pieceOf, CleanPlan}
 use Rattle.plans.specs.Shape.{checkedPlan}
 use Rattle.plans.specs.declared.Plan.{Plan}
-use Rattle.layout.specs.Layout.{start, layFirst, Laying, laid, stuck, outcome, ifGood, planned}
+use Rattle.layout.specs.Layout.{start, layFirst, Laying, laid, stuck, planned}
 use Rattle.layout.specs.declared.Draft.{Draft}
-use Rattle.layout.proofs.Drafts.{Drafted, Ready, drafted-room}
+use Rattle.layout.proofs.Drafts.{Ready, drafted-room, start-task}
 use Rattle.layout.proofs.Keeps.{Keeps, lay-keeps}
 use Rattle.layout.proofs.Reached.{lay-ready, lay-few}
 use Rattle.layout.proofs.Shape.{laid-shape}
@@ -36,8 +36,14 @@ good-accepted m n ts g = all-good m n ts (both-make (le-leb 1 m (g .cores .0)) (
     fits t r = sym (values-last t (r .some) (r .short) (r .inside)) ∙ le-leb (t .period) 1000000 (r .most)
 
 -- a draft in which every task is laid out has the plan shape
-ready-shape : (d : Draft) → Ready (d .plan .count) d → checkedPlan (d .plan) ≡ Accepted
-ready-shape d R = shape-accepted (d .plan) (good-accepted _ _ _ (R .good)) (laid-shape _ _ _ _ _ _ _ (R .laid) (R .good .tasks .0) (omega (arith, drafted-room _ _ 0 d R (le-refl _))))
+complete-shape : (d : Draft) → Ready (d .plan .count) d → checkedPlan (d .plan) ≡ Accepted
+complete-shape d R = shape-accepted (d .plan) (good-accepted _ _ _ (R .good)) (laid-shape _ _ _ _ _ _ _ (R .laid) (R .good .tasks .0) (omega (arith, drafted-room _ _ 0 d R (le-refl _))))
+
+-- plan p has the cores, count and tasks of table t
+pub record OverTable (t : Table) (p : Plan) : Type 0 where
+  pub cores : p .cores ≡ t .cores
+  pub count : p .count ≡ t .count
+  pub tasks : (i : ℕ) → i < t .count → taskOf p i ≡ table.taskOf t i
 
 -- an accepted table is good, and its plan is that of the draft in which all its tasks are laid out
 pub record Planning (t : Table) : Type 0 where
@@ -59,40 +65,41 @@ accepted-planning t h = go _ refl _ refl
     go Accepted p (laid d) q = record { good = p; draft = d; lays = q; plan = rw (p, q) }
 
 module _ (t : Table) (accepted : planned t .answer ≡ Accepted) where
-  P : Planning t
-  P = accepted-planning t accepted
+  planning : Planning t
+  planning = accepted-planning t accepted
 
-  R : Ready (t .count) (P .draft)
-  R = lay-ready t (P .good) (t .count) (le-refl _) (P .draft) (P .lays)
+  all-laid : Ready (t .count) (planning .draft)
+  all-laid = lay-ready t (planning .good) (t .count) (le-refl _) (planning .draft) (planning .lays)
 
-  K : Keeps (start t .plan) (P .draft .plan)
-  K = lay-keeps (start t) (t .count) (P .draft) (P .lays)
+  kept : Keeps (start t .plan) (planning .draft .plan)
+  kept = lay-keeps (start t) (t .count) (planning .draft) (planning .lays)
 
   -- the plan is over the table's cores and tasks
-  pub planned-keeps : Keeps (start t .plan) (planned t .plan)
-  planned-keeps = rw (P .plan) K
+  pub planned-over : OverTable t (planned t .plan)
+  unfolding start
+  planned-over = rw (planning .plan) (record { cores = kept .cores; count = kept .count; tasks = λ i h. rw (kept .tasks) (start-task t (planning .good) i h) })
 
   -- it has at most a piece for each task and one for each core
   pub planned-few : planned t .plan .placed ≤ t .count + t .cores
-  planned-few = rw (P .plan) (lay-few t (P .good) (t .count) (le-refl _) (P .draft) (P .lays))
+  planned-few = rw (planning .plan) (lay-few t (planning .good) (t .count) (le-refl _) (planning .draft) (planning .lays))
 
   -- the entries past its counts are 0
   pub planned-clean : CleanPlan (planned t .plan)
   unfolding start
-  planned-clean = rw (P .plan) (record {
-    tasks = λ i h. rw (K .tasks) (padded-out 64 noTask (t .count) (table.taskOf t) i (omega (arith, K .count)));
-    pieces = R .clean;
+  planned-clean = rw (planning .plan) (record {
+    tasks = λ i h. rw (kept .tasks) (padded-out 64 noTask (t .count) (table.taskOf t) i (omega (arith, kept .count)));
+    pieces = all-laid .clean;
   })
 
   -- it is a good table's plan and has the plan shape
   pub planned-shape : checkedPlan (planned t .plan) ≡ Accepted
   unfolding start
-  planned-shape = rw (P .plan) (ready-shape (P .draft) (subst (λ (n : ℕ). Ready n (P .draft)) (sym (K .count)) R))
+  planned-shape = rw (planning .plan) (complete-shape (planning .draft) (subst (λ (n : ℕ). Ready n (planning .draft)) (sym (kept .count)) all-laid))
 
   -- every piece's bound is within its local deadline
   pub planned-within : (q : ℕ) → q < planned t .plan .placed → bound (taskOf (planned t .plan)) (pieceOf (planned t .plan)) (planned t .plan .placed) q ≤ localDeadline (taskOf (planned t .plan)) (pieceOf (planned t .plan)) q
-  planned-within = rw (P .plan) (R .laid .within)
+  planned-within = rw (planning .plan) (all-laid .laid .within)
 
   -- it has the certificate
   pub planned-certified : Certified (taskOf (planned t .plan)) (pieceOf (planned t .plan)) (planned t .plan .placed)
-  planned-certified = rw (P .plan) (record { within = λ q h z. R .laid .within q h; top = λ j k a b z. R .laid .tops k b z .alone j a })
+  planned-certified = rw (planning .plan) (record { within = λ q h z. all-laid .laid .within q h; top = λ j k a b z. all-laid .laid .tops k b z .alone j a })

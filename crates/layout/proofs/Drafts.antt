@@ -1,19 +1,17 @@
 -- What holds of every draft that the layout of a good table reaches: its lists are of a record's length, its numbers are a good table's, and it never overruns them.
-use mathlib.Core.Path.{_≡_, refl, sym, ap, _∙_}
-use mathlib.Core.Bool.{Bool, true, false, cond}
+use mathlib.Core.Path.{_≡_, refl, ap, _∙_}
+use mathlib.Core.Bool.{Bool, false, cond}
 use mathlib.Core.List.{List}
 use Prim.Native.Nat.{ℕ, zero, suc, _+_, _≤_, _<_}
-use native.Mathlib.Decide.{decLt, ℕ-discrete}
-use native.Mathlib.Nat.{le-trans}
+use native.Mathlib.Decide.{ℕ-discrete}
 use native.Mathlib.Numerals.{add-one}
 use native.Mathlib.Omega.{arith}
 use lib.Dec.{eqb}
-use lib.ListN.{length, getD, set, replicate, length-set, length-replicate}
+use lib.ListN.{length, getD, replicate, length-replicate}
 use borrow.Author.Tests.{eq-eqb}
 use Rattle.tasks.proofs.Below.{sum-member, count-le}
-use Rattle.tasks.proofs.Padded.{padded-in, padded-out}
+use Rattle.tasks.proofs.Padded.{padded-in}
 use Rattle.tasks.proofs.Tables.{GoodTable, Ranges, accepted-good}
-use Rattle.tasks.specs.Below.{sum}
 use Rattle.tasks.specs.Tables.{noTask, checkedTable}
 use Rattle.tasks.specs.Tables as table
 use Rattle.tasks.specs.declared.Answer.the-variants.{Accepted}
@@ -26,7 +24,7 @@ use Rattle.layout.specs.Layout.{start}
 use Rattle.layout.specs.Whole.{put, isClosed}
 use Rattle.layout.specs.declared.Draft.{Draft}
 use Rattle.layout.proofs.Laid.{Laid, laid-start, openCores}
-use Rattle.layout.proofs.Put.{put-length, put-old, put-past, put-new, put-each}
+use Rattle.layout.proofs.Put.{put-length, put-past, put-each}
 
 -- the draft while task i is laid out, with `need` of its cost still to be placed on core x or above
 pub record Drafted (i need x : ℕ) (d : Draft) : Type 0 where
@@ -94,13 +92,6 @@ module _ (i need x : ℕ) (d : Draft) (D : Drafted i need x d) where
   module _ (known : i < d .plan .count) where
     pub task-range : Ranges (taskOf (d .plan) i)
     task-range = D .good .values i known
-
-    -- so are they with a piece more of task i
-    pub drafted-more : (z : Piece) → z .task .0 ≡ i → z .cost ≤ taskOf (d .plan) i .cost → Moderate (put z (d .plan))
-    drafted-more z e h =
-        let r : Ranges (taskOf (d .plan) (z .task .0)) = rw e task-range in
-        put-moderate z (d .plan) (D .long) (drafted-room (omega arith)) (drafted-moderate (omega arith)) (omega (arith, D .good .tasks .1)) (omega (arith, r .some, r .short, r .inside))
-        (omega (arith, r .short, r .inside, ap (λ (j : ℕ). taskOf (d .plan) j .cost) e)) (omega (arith, r .inside, r .most)) (r .most)
 
     -- what is laid out with one piece more is a draft's
     pub drafted-put : (z : Piece) (closed : List Bool) → length closed ≡ 16 → (k rest y : ℕ)

@@ -15,3 +15,4 @@ pub mod Placing
 pub mod Shape
 pub mod Certified
 pub mod Refusal
+pub mod Turns

@@ -1,9 +1,8 @@
--- A core's limit is within what each of its pieces allows, and below 1,000,000 wherever there is a piece.
+-- A core's limit is within what each of its pieces allows.
 use mathlib.Core.Path.{_≡_, refl}
 use mathlib.Core.Bool.{Bool, true, false, cond}
 use Prim.Native.Nat.{ℕ, zero, suc, _≤_, _<_, min}
 use native.Mathlib.Decide.{ℕ-discrete}
-use native.Mathlib.Nat.{le-refl}
 use native.Mathlib.Omega.{arith}
 use lib.Dec.{eqb}
 use borrow.Author.Tests.{eqb-false}
@@ -22,12 +21,3 @@ limit-le w p x (suc n) q h e = go _ refl (ℕ-discrete q n) (λ l. limit-le w p 
     go true u (no k) ih = omega (arith, ih (omega arith))
     go false u (yes k) ih = absurd (eqb-false _ _ u (rw k at e))
     go false u (no k) ih = ih (omega arith)
-
-pub limit-most : (w : Plan) (p x n : ℕ) → limitOf w p x n ≤ 1000000
-unfolding limitOf
-limit-most w p x zero = le-refl _
-limit-most w p x (suc n) = go (eqb (pieceOf w n .core .0) x) (limit-most w p x n)
-  where
-    go : (b : Bool) → limitOf w p x n ≤ 1000000 → cond b (min (limitOf w p x n) (allowance w p n)) (limitOf w p x n) ≤ 1000000
-    go true h = omega arith
-    go false h = h

@@ -1,10 +1,9 @@
 -- One piece more: what adding it does to costs, bounds and the order of the pieces that are there.
-use mathlib.Core.Path.{_≡_, refl, sym, ap, _∙_}
+use mathlib.Core.Path.{_≡_, ap}
 use mathlib.Core.Logic.{_⊎_, inl, inr}
-use mathlib.Core.Bool.{Bool, true, false, not, _&&_, cond}
+use mathlib.Core.Bool.{true, false, not, _&&_, cond}
 use Prim.Native.Nat.{ℕ, zero, suc, _+_, _-_, _≤_, _<_}
 use native.Mathlib.Decide.{decLt}
-use native.Mathlib.Nat.{le-refl}
 use native.Mathlib.Omega.{arith}
 use lib.Dec.{ltb, eqb}
 use borrow.Author.Tests.{eqb-true, lt-ltb, not-false}
@@ -16,7 +15,7 @@ use Rattle.plans.specs.Bound.{localDeadline, load, bound}
 use Rattle.plans.specs.Interference.{interference}
 use Rattle.plans.specs.Pieces.{costs}
 use Rattle.plans.specs.Rank.{above}
-use Rattle.plans.specs.Shape.{sameTask, follows, inOrder, isLast}
+use Rattle.plans.specs.Shape.{sameTask, inOrder, isLast}
 use Rattle.plans.specs.declared.Piece.{Piece}
 
 module _ (pc pc′ : ℕ → Piece) (n : ℕ) (same : (j : ℕ) → j < n → pc′ j ≡ pc j) where

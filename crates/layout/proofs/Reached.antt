@@ -1,7 +1,7 @@
 -- Every draft that the layout of a good table reaches.
-use mathlib.Core.Path.{_≡_, refl, sym, ap, _∙_, subst}
+use mathlib.Core.Path.{_≡_, refl, sym, _∙_, subst}
 use mathlib.Core.Bool.{Bool, true, false}
-use mathlib.Core.Option.{Option, none, some}
+use mathlib.Core.Option.{some}
 use Prim.Native.Nat.{ℕ, zero, suc, _+_, _≤_, _<_}
 use native.Mathlib.Omega.{arith}
 use Rattle.tasks.proofs.Below.{first-holds}
@@ -9,16 +9,16 @@ use Rattle.tasks.specs.Below.{any, first}
 use Rattle.tasks.specs.Tables.{checkedTable}
 use Rattle.tasks.specs.declared.Answer.the-variants.{Accepted}
 use Rattle.tasks.specs.declared.Table.{Table}
+use Rattle.plans.specs.Bound.{localDeadline, bound}
 use Rattle.plans.specs.Leaves.{Moderate}
-use Rattle.plans.specs.Pieces.{taskOf}
+use Rattle.plans.specs.Pieces.{taskOf, pieceOf}
 use Rattle.layout.specs.Layout.{start, place, layFirst, laid}
 use Rattle.layout.specs.Whole.{takesWhole}
 use Rattle.layout.specs.declared.Draft.{Draft}
-use Rattle.layout.proofs.Drafts.{Drafted, Ready, drafted-few, drafted-moderate, start-ready}
-use Rattle.layout.proofs.Keeps.{Keeps, Placed, place-whole, place-shared, lay-last, lay-keeps, laid-is}
+use Rattle.layout.proofs.Drafts.{Ready, drafted-few, drafted-moderate, start-ready}
+use Rattle.layout.proofs.Keeps.{Placed, place-whole, place-shared, lay-last, lay-keeps, laid-is}
 use Rattle.layout.proofs.Sharing.{share-ready, some-is}
 use Rattle.layout.proofs.Wholes.{whole-ready}
-use Rattle.tasks.proofs.Tables.{Ranges}
 
 -- a task that finds its place leaves a draft with the next task to lay out
 pub place-ready : (i : ℕ) (d v : Draft) → Ready i d → i < d .plan .count → place d i ≡ some v → Ready (suc i) v
@@ -46,3 +46,7 @@ module _ (t : Table) (good : checkedTable t ≡ Accepted) where
   pub lay-moderate : (i : ℕ) → i ≤ t .count → (d : Draft) → layFirst (start t) i ≡ laid d → Moderate (d .plan)
   unfolding start
   lay-moderate i h d e = drafted-moderate i (taskOf (d .plan) i .cost) 0 d (lay-ready i h d e) (omega (arith, lay-keeps (start t) i d e .count))
+
+  -- every piece of it has a bound within its local deadline
+  pub lay-within : (i : ℕ) → i ≤ t .count → (d : Draft) → layFirst (start t) i ≡ laid d → (q : ℕ) → q < d .plan .placed → bound (taskOf (d .plan)) (pieceOf (d .plan)) (d .plan .placed) q ≤ localDeadline (taskOf (d .plan)) (pieceOf (d .plan)) q
+  lay-within i h d e = lay-ready i h d e .laid .within

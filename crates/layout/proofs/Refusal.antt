@@ -2,15 +2,13 @@
 use mathlib.Core.Path.{_≡_, refl, sym, ap, _∙_}
 use mathlib.Core.Bool.{Bool, true, false, not}
 use mathlib.Core.Option.{Option, none, some}
-use Prim.Native.Nat.{ℕ, zero, suc, _≤_, _<_}
-use native.Mathlib.Decide.{ℕ-discrete}
+use Prim.Native.Nat.{ℕ, zero, suc, _+_, _-_, _<_}
 use native.Mathlib.Omega.{arith}
 use Rattle.tasks.specs.Below.{any}
 use Rattle.tasks.specs.Tables.{taskNo, coresFit, tasksFit, valuesFit, checkedTasks, checkedTable}
 use Rattle.tasks.specs.Tables as table
 use Rattle.tasks.specs.declared.Answer.{Answer}
 use Rattle.tasks.specs.declared.Answer.the-variants.{Accepted, Refused}
-use Rattle.tasks.specs.declared.Refusal.{Refusal}
 use Rattle.tasks.specs.declared.Refusal.the-variants.{NotPlaced}
 use Rattle.tasks.specs.declared.Table.{Table}
 use Rattle.tasks.specs.declared.Task.{Task}
@@ -19,6 +17,7 @@ use Rattle.layout.specs.Layout.{start, place, Laying, laid, stuck, orStu
 use Rattle.layout.specs.declared.Draft.{Draft}
 use Rattle.layout.proofs.Certified.{refused-accepted}
 use Rattle.layout.proofs.Keeps.{laid-stuck}
+use Rattle.layout.proofs.Placing.{lay-stuck}
 
 -- the tasks before i are laid out, and then task i, of the first n, finds no place
 pub record Stuck (s : Draft) (n i : ℕ) : Type 0 where
@@ -30,10 +29,10 @@ pub record Stuck (s : Draft) (n i : ℕ) : Type 0 where
 stuck-is : {i k : ℕ} → stuck i ≡ stuck k → i ≡ k
 stuck-is e = cc
 
-pub lay-stuck : (s : Draft) (n i : ℕ) → layFirst s n ≡ stuck i → Stuck s n i
+pub lay-fails : (s : Draft) (n i : ℕ) → layFirst s n ≡ stuck i → Stuck s n i
 unfolding layFirst
-lay-stuck s zero i e = laid-stuck e
-lay-stuck s (suc n) i e = go (layFirst s n) refl e (lay-stuck s n i)
+lay-fails s zero i e = laid-stuck e
+lay-fails s (suc n) i e = go (layFirst s n) refl e (lay-fails s n i)
   where
     fails : (d : Draft) → layFirst s n ≡ laid d → (o : Option Draft) → place d n ≡ o → orStuck n o ≡ stuck i → Stuck s (suc n) i
     fails d p (some v) f q = laid-stuck q
@@ -46,13 +45,9 @@ lay-stuck s (suc n) i e = go (layFirst s n) refl e (lay-stuck s n i)
     go (laid d) p q ih = fails d p _ refl q
 
 pub stuck-lay : (s : Draft) (n i : ℕ) → Stuck s n i → layFirst s n ≡ stuck i
-unfolding layFirst
-stuck-lay s zero i r = absurd (omega (arith, r .below))
-stuck-lay s (suc n) i r = go (ℕ-discrete i n) (stuck-lay s n i)
-  where
-    go : Dec (i ≡ n) → (Stuck s n i → layFirst s n ≡ stuck i) → thenPlace n (layFirst s n) ≡ stuck i
-    go (yes e) ih = rw (← e, r .lays, r .fails)
-    go (no e) ih = rw (ih (record { below = omega (arith, r .below); before = r .before; lays = r .lays; fails = r .fails }))
+stuck-lay s n i r =
+    let e : i + 1 + (n - (i + 1)) ≡ n = omega (arith, r .below) in
+    rw e at (lay-stuck s (r .before) i (r .lays) (r .fails) (n - (i + 1)))
 
 -- the check of a table never answers with 7
 not-seven : (m n : ℕ) (ts : ℕ → Task) (k : TaskNo) → checkedTasks m n ts ≡ Refused (NotPlaced k) → ⊥
@@ -79,13 +74,8 @@ module _ (t : Table) (i : ℕ) where
       go Accepted p (laid d) q = refused-accepted (sym (rw (p, q) at h))
       go Accepted p (stuck k) q =
           let e : taskNo k ≡ taskNo i = named-is (rw (p, q) at h) in
-          (p, lay-stuck (start t) (t .count) i (q ∙ ap (λ (n : TaskNo). stuck (n .0)) e))
+          (p, lay-fails (start t) (t .count) i (q ∙ ap (λ (n : TaskNo). stuck (n .0)) e))
 
   pub stuck-refused : checkedTable t ≡ Accepted → Stuck (start t) (t .count) i → planned t ≡ refused (NotPlaced (taskNo i))
   unfolding planned
   stuck-refused good s = rw (good, stuck-lay (start t) (t .count) i s)
-
--- a table that is not good gets its refusal
-pub bad-refused : (t : Table) (r : Refusal) → checkedTable t ≡ Refused r → planned t ≡ refused r
-unfolding planned
-bad-refused t r h = rw h

@@ -1,36 +1,31 @@
 -- Shares keep a draft: each is within its core's limit, and one that is not its task's last closes its core.
-use mathlib.Core.Path.{_≡_, refl, sym, ap, _∙_}
-use mathlib.Core.Bool.{Bool, true, false, _||_, cond}
+use mathlib.Core.Path.{_≡_, refl, sym, _∙_}
+use mathlib.Core.Bool.{Bool, true, false}
 use mathlib.Core.List.{List}
-use mathlib.Core.Option.{Option, none, some}
-use Prim.Native.Nat.{ℕ, zero, suc, _+_, _-_, _*_, _/_, _≤_, _<_}
+use mathlib.Core.Option.{some}
+use Prim.Native.Nat.{ℕ, suc, _+_, _-_, _/_, _≤_, _<_}
 use native.Mathlib.Decide.{ℕ-discrete}
 use native.Mathlib.Nat.{le-refl, le-trans}
 use native.Mathlib.Omega.{arith}
-use lib.Dec.{ltb, eqb}
 use lib.ListN.{length, set, length-set}
 use lib.Seq.{getD-set-same}
-use borrow.Author.Tests.{eqb-true, eqb-false, ltb-true, ltb-false}
 use Rattle.tasks.proofs.Below.{sum-none}
-use Rattle.tasks.proofs.Bools.{neither}
 use Rattle.tasks.proofs.Tables.{Ranges}
-use Rattle.tasks.specs.Below.{sum}
 use Rattle.tasks.specs.Tables.{taskNo, coreNo}
 use Rattle.tasks.specs.declared.Task.{Task}
 use Rattle.plans.proofs.Rank.{above-core, above-share}
 use Rattle.plans.specs.Bound.{localDeadline, load, bound}
-use Rattle.plans.specs.Interference.{interference, periods}
-use Rattle.plans.specs.Pieces.{noPiece, taskOf, pieceOf, costs}
+use Rattle.plans.specs.Interference.{periods}
+use Rattle.plans.specs.Pieces.{taskOf, pieceOf, costs}
 use Rattle.plans.specs.Rank.{above}
 use Rattle.plans.specs.declared.Kind.the-variants.{Share}
 use Rattle.plans.specs.declared.Piece.{Piece}
-use Rattle.plans.specs.declared.Plan.{Plan}
-use Rattle.layout.specs.Limit.{allowance, limitOf, limit}
-use Rattle.layout.specs.Shared.{giveShare, close, shareFrom}
+use Rattle.layout.specs.Limit.{allowance, limit}
+use Rattle.layout.specs.Shared.{giveShare, close}
 use Rattle.layout.specs.Whole.{put, isClosed}
 use Rattle.layout.specs.declared.Draft.{Draft}
 use Rattle.layout.proofs.Drafts.{Drafted, Ready, drafted-room, drafted-put, task-range}
-use Rattle.layout.proofs.Laid.{Laid, laid-skip, laid-part, laid-done, close-one, openCores, share-fits}
+use Rattle.layout.proofs.Laid.{laid-part, laid-done, close-one, openCores, share-fits}
 use Rattle.layout.proofs.Limits.{limit-le}
 use Rattle.layout.proofs.More.{costs-kept, bound-grows}
 use Rattle.layout.proofs.Put.{put-old, put-new, close-stays}

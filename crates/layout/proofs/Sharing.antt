@@ -1,6 +1,6 @@
 -- Shared: what each turn over the cores does, and that a task which finds its place this way leaves a draft with the next task to lay out.
 use mathlib.Core.Path.{_≡_, refl, subst}
-use mathlib.Core.Bool.{Bool, true, false, _||_, cond}
+use mathlib.Core.Bool.{Bool, true, false, _||_}
 use mathlib.Core.Option.{Option, none, some}
 use Prim.Native.Nat.{ℕ, zero, suc, _+_, _-_, _≤_, _<_}
 use native.Mathlib.Nat.{le-refl}
@@ -9,7 +9,7 @@ use lib.Dec.{ltb, eqb}
 use borrow.Author.Tests.{eqb-true, eqb-false, ltb-true, ltb-false}
 use Rattle.tasks.proofs.Bools.{neither}
 use Rattle.plans.specs.Pieces.{taskOf}
-use Rattle.layout.specs.Limit.{limitOf, limit}
+use Rattle.layout.specs.Limit.{limit}
 use Rattle.layout.specs.Shared.{giveShare, close, shareFrom}
 use Rattle.layout.specs.Whole.{put, isClosed}
 use Rattle.layout.specs.declared.Draft.{Draft}

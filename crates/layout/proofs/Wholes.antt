@@ -1,6 +1,6 @@
 -- Whole: a task that goes whole to a core that takes it keeps a draft, and an empty core that is open takes every task.
-use mathlib.Core.Path.{_≡_, refl, sym, ap, _∙_}
-use mathlib.Core.Bool.{Bool, true, false, not, _&&_, _||_}
+use mathlib.Core.Path.{_≡_, refl, sym, ap}
+use mathlib.Core.Bool.{Bool, true, false, not, _||_}
 use Prim.Native.Nat.{ℕ, suc, _+_, _-_, _≤_, _<_}
 use native.Mathlib.Decide.{ℕ-discrete}
 use native.Mathlib.Nat.{le-refl}
@@ -12,11 +12,10 @@ use borrow.Author.Tests.{eq-eqb, ne-eqb, le-leb, leb-true, not-true}
 use Rattle.tasks.proofs.Below.{all-each, all-make, sum-none}
 use Rattle.tasks.proofs.Bools.{clash, both, both-make, right-one}
 use Rattle.tasks.proofs.Tables.{Ranges}
-use Rattle.tasks.specs.Below.{all, sum}
-use Rattle.tasks.specs.declared.Task.{Task}
+use Rattle.tasks.specs.Below.{all}
 use Rattle.plans.proofs.Rank.{above-core, above-self, above-whole}
 use Rattle.plans.specs.Bound.{localDeadline, load, bound}
-use Rattle.plans.specs.Pieces.{noPiece, taskOf, pieceOf, costs}
+use Rattle.plans.specs.Pieces.{taskOf, pieceOf, costs}
 use Rattle.plans.specs.Rank.{above}
 use Rattle.plans.specs.Shape.{isShare}
 use Rattle.plans.specs.declared.Kind.{Kind}
@@ -25,7 +24,7 @@ use Rattle.plans.specs.declared.Piece.{Piece}
 use Rattle.plans.specs.declared.Plan.{Plan}
 use Rattle.layout.specs.Whole.{put, isClosed, wholePiece, keepsBound, takesWhole}
 use Rattle.layout.specs.declared.Draft.{Draft}
-use Rattle.layout.proofs.Drafts.{Drafted, Ready, drafted-room, drafted-put, task-range}
+use Rattle.layout.proofs.Drafts.{Ready, drafted-room, drafted-put, task-range}
 use Rattle.layout.proofs.Laid.{laid-done}
 use Rattle.layout.proofs.More.{costs-kept, local-kept}
 use Rattle.layout.proofs.Put.{put-old, put-new}
