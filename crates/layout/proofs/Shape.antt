@@ -1,6 +1,5 @@
 -- The pieces of a draft in which every task is laid out have the plan shape.
 use mathlib.Core.Path.{_≡_, refl, sym, ap, _∙_}
-use mathlib.Core.Logic.{_⊎_, inl, inr}
 use mathlib.Core.Bool.{Bool, true, false}
 use Prim.Native.Nat.{ℕ, zero, suc, _+_, _-_, _≤_, _<_}
 use native.Mathlib.Decide.{ℕ-discrete}
@@ -10,7 +9,7 @@ use Rattle.tasks.proofs.Below.{all-make}
 use Rattle.tasks.proofs.Bools.{clash, both-make}
 use Rattle.tasks.specs.Below.{sum}
 use Rattle.tasks.specs.declared.Task.{Task}
-use Rattle.plans.proofs.Shaped.{follows-task, tasks-rise, more-fits, last-fits}
+use Rattle.plans.proofs.Shaped.{tasks-rise, more-fits, last-fits}
 use Rattle.plans.specs.Pieces.{costs}
 use Rattle.plans.specs.Shape.{inOrder, isLast, pieceFits, shape}
 use Rattle.plans.specs.declared.Piece.{Piece}
@@ -29,15 +28,11 @@ sum-flat a (suc b) f h z = go (ℕ-discrete a (suc b)) (sum-flat a b f)
 module _ (pc : ℕ → Piece) (n : ℕ) (ordered : (j : ℕ) → j < n → inOrder pc j ≡ true) where
   -- after a task's last piece the tasks are later ones
   after-last : (j k : ℕ) → isLast pc n j ≡ true → suc j ≤ k → k < n → pc j .task .0 < pc k .task .0
-  unfolding inOrder isLast
-  after-last j k z h l = go (follows-task (pc j) (pc (suc j)) (ordered (suc j) (omega arith)))
+  unfolding isLast
+  after-last j k z h l = omega (arith, other, tasks-rise pc n ordered j (suc j) (omega arith) (omega arith), tasks-rise pc n ordered (suc j) k h l)
     where
       other : pc j .task .0 ≡ pc (suc j) .task .0 → ⊥
       other e = clash z (rw (lt-ltb (suc j) n (omega arith), eq-eqb (pc j .task .0) (pc (suc j) .task .0) e))
-
-      go : (pc (suc j) .task .0 ≡ pc j .task .0 + 1) ⊎ (pc j .task .0 ≡ pc (suc j) .task .0) → pc j .task .0 < pc k .task .0
-      go (inl e) = omega (arith, tasks-rise pc n ordered (suc j) k h l)
-      go (inr e) = absurd (other e)
 
   -- so up to it all of the task's costs are added up
   pub last-costs : (j : ℕ) → j < n → isLast pc n j ≡ true → costs pc (pc j .task .0) (suc j) ≡ costs pc (pc j .task .0) n
