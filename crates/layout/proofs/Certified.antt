@@ -20,7 +20,6 @@ use Rattle.plans.specs.Bound.{localDeadline, bound}
 use Rattle.plans.specs.Certificate.{Certified}
 use Rattle.plans.specs.Pieces.{taskOf, pieceOf, CleanPlan}
 use Rattle.plans.specs.Shape.{checkedPlan}
-use Rattle.plans.specs.declared.Plan.{Plan}
 use Rattle.layout.specs.Layout.{start, layFirst, Laying, laid, stuck, planned}
 use Rattle.layout.specs.declared.Draft.{Draft}
 use Rattle.layout.proofs.Drafts.{Ready, drafted-room, start-task}
@@ -38,12 +37,6 @@ good-accepted m n ts g = all-good m n ts (both-make (le-leb 1 m (g .cores .0)) (
 -- a draft in which every task is laid out has the plan shape
 complete-shape : (d : Draft) → Ready (d .plan .count) d → checkedPlan (d .plan) ≡ Accepted
 complete-shape d R = shape-accepted (d .plan) (good-accepted _ _ _ (R .good)) (laid-shape _ _ _ _ _ _ _ (R .laid) (R .good .tasks .0) (omega (arith, drafted-room _ _ 0 d R (le-refl _))))
-
--- plan p has the cores, count and tasks of table t
-pub record OverTable (t : Table) (p : Plan) : Type 0 where
-  pub cores : p .cores ≡ t .cores
-  pub count : p .count ≡ t .count
-  pub tasks : (i : ℕ) → i < t .count → taskOf p i ≡ table.taskOf t i
 
 -- an accepted table is good, and its plan is that of the draft in which all its tasks are laid out
 pub record Planning (t : Table) : Type 0 where
@@ -75,9 +68,16 @@ module _ (t : Table) (accepted : planned t .answer ≡ Accepted) where
   kept = lay-keeps (start t) (t .count) (planning .draft) (planning .lays)
 
   -- the plan is over the table's cores and tasks
-  pub planned-over : OverTable t (planned t .plan)
+  pub planned-cores : planned t .plan .cores ≡ t .cores
   unfolding start
-  planned-over = rw (planning .plan) (record { cores = kept .cores; count = kept .count; tasks = λ i h. rw (kept .tasks) (start-task t (planning .good) i h) })
+  planned-cores = rw (planning .plan) (kept .cores)
+
+  pub planned-count : planned t .plan .count ≡ t .count
+  unfolding start
+  planned-count = rw (planning .plan) (kept .count)
+
+  pub planned-tasks : (i : ℕ) → i < t .count → taskOf (planned t .plan) i ≡ table.taskOf t i
+  planned-tasks i h = rw (planning .plan, kept .tasks) (start-task t (planning .good) i h)
 
   -- it has at most a piece for each task and one for each core
   pub planned-few : planned t .plan .placed ≤ t .count + t .cores
