@@ -14,3 +14,8 @@ use Rattle.files.specs.declared.Field.{Field}
 pub piece-room : (f : Field) (n : ℕ) → pieceTaken f n ≡ true → n < 128
 unfolding pieceTaken
 piece-room f n h = ltb-true n 128 (both {a = ltb (getD (f .bytes) 5 0) 2} h .1)
+
+-- and its kind is 0 or 1
+pub piece-kind : (f : Field) (n : ℕ) → pieceTaken f n ≡ true → getD (f .bytes) 5 0 < 2
+unfolding pieceTaken
+piece-kind f n h = ltb-true (getD (f .bytes) 5 0) 2 (both {b = ltb n 128} h .0)

@@ -7,3 +7,5 @@ pub mod ReadBack
 pub mod Writing
 pub mod Same
 pub mod RoundTrip
+pub mod Taken
+pub mod Accepted

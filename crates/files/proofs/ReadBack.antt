@@ -72,7 +72,7 @@ unfoldable pub holds : Field → List ℕ → Field
 holds f [] = f
 holds f (b ∷ bs) = holds (hold f b) bs
 
-length-most : (g : ℕ) → lengthFor g ≤ 12
+pub length-most : (g : ℕ) → lengthFor g ≤ 12
 length-most g = go (eqb g 1) (eqb g 2)
   where
     go : (a b : Bool) → cond a 1 (cond b 12 7) ≤ 12
