@@ -209,3 +209,87 @@ module _ (o : Bool) (s : List ℕ) (g : Field) (p : Plan) (h : Held o s g p) (d 
             alone = λ q. clash z (h .kind ∙ q);
             order = λ l. absurd (omega (arith, h .ends, h .whole));
           }
+
+  plain-next : (n : ℕ) → (tag g ≡ 3 → ⊥) → nextField g n ≡ fieldAt (g .pieces) (length s) (length s) (g .misshapen)
+  unfolding nextField
+  plain-next n q = rw (ne-eqb (tag g) 3 q, next-place)
+
+  piece-next : (n : ℕ) (b : Bool) → tag g ≡ 3 → pieceTaken g n ≡ b → nextField g n ≡ fieldAt (g .pieces) (length s) (g .end) (cond b (g .misshapen) true)
+  unfolding nextField
+  piece-next n b q k = rw (eq-eqb (tag g) 3 q, next-place, k)
+
+  cores-added : tag g ≡ 1 → added g p ≡ withCores p (getD (g .bytes) 3 0)
+  unfolding added
+  cores-added q = rw (eq-eqb (tag g) 1 q)
+
+  task-added : tag g ≡ 2 → added g p ≡ withTask p (taskIn g)
+  unfolding added
+  task-added q = rw (ne-eqb (tag g) 1 (λ k. omega arith), eq-eqb (tag g) 2 q)
+
+  piece-added : (b : Bool) → tag g ≡ 3 → pieceTaken g (p .placed) ≡ b → added g p ≡ cond b (withPiece p (pieceIn g)) p
+  unfolding added
+  piece-added b q k = rw (ne-eqb (tag g) 1 (λ r. omega arith), ne-eqb (tag g) 2 (λ r. omega arith), k)
+
+  taken-held : (tag g ≡ 2 → p .count < 64) → Held o s (nextField g (p .placed)) (added g p)
+  taken-held room = go (tag-cases g (d .fits))
+    where
+      of-piece : tag g ≡ 3 → g .pieces ≡ true → (b : Bool) → pieceTaken g (p .placed) ≡ b → Held o s (fieldAt (g .pieces) (length s) (g .end) (cond b (g .misshapen) true)) (cond b (withPiece p (pieceIn g)) p)
+      of-piece t z true k = taken-piece t z k
+      of-piece t z false k = next-held (g .end) true (h .named) p (omega (arith, h .ends, h .whole)) (λ q. clash refl q)
+
+      go : ((tag g ≡ 1) × (g .place ≡ 0)) ⊎ (((tag g ≡ 2) × (g .place ≤ g .end)) ⊎ ((tag g ≡ 3) × (g .pieces ≡ true))) → Held o s (nextField g (p .placed)) (added g p)
+      go (inl t) = rw (plain-next (p .placed) (λ q. omega arith), cores-added (t .0)) (taken-cores (t .0) (t .1))
+      go (inr (inl t)) = rw (plain-next (p .placed) (λ q. omega arith), task-added (t .0)) (taken-task (t .0) (t .1) (room (t .0)))
+      go (inr (inr t)) = rw (piece-next (p .placed) _ (t .0) refl, piece-added _ (t .0) refl) (of-piece (t .0) (t .1) _ refl)
+
+-- ---- a whole file
+
+-- a byte more does not go past the field's end
+hold-short : (f : Field) (b : ℕ) → f .count < 3 + lengthFor (tag f) → hold f b .count ≤ 3 + lengthFor (tag (hold f b))
+hold-short f b h = rw (hold-is f b (omega (arith, length-most (tag f)))) (go (decLt (f .count) 3))
+  where
+    go : Dec (f .count < 3) → f .count + 1 ≤ 3 + lengthFor (getD (set (f .bytes) (f .count) b) 0 0)
+    go (yes l) = omega arith
+    go (no l) = rw (getD-set-other (f .bytes) (f .count) 0 b 0 (λ e. omega arith)) (omega arith)
+
+next-count : (f : Field) (n : ℕ) → nextField f n .count ≡ 0
+unfolding nextField
+next-count f n = go (eqb (tag f) 3)
+  where
+    go : (b : Bool) → cond b (fieldAt (f .pieces) (further (f .place) (3 + lengthFor (tag f))) (f .end) (cond (pieceTaken f n) (f .misshapen) true)) (fieldAt (f .pieces) (further (f .place) (3 + lengthFor (tag f))) (further (f .place) (3 + lengthFor (tag f))) (f .misshapen)) .count ≡ 0
+    go true = refl
+    go false = refl
+
+-- one byte that is read without a refusal
+step-held : (o : Bool) (s : List ℕ) (f : Field) (p : Plan) (b : ℕ) → Held o s f p → f .count < 3 + lengthFor (tag f) → b < 256 → length s + 1 ≤ 18446744073709551615
+    → step (reader f p) b .field .answer ≡ Accepted → Held o (s ++ (b ∷ [])) (step (reader f p) b .field) (step (reader f p) b .plan) × (step (reader f p) b .field .count < 3 + lengthFor (tag (step (reader f p) b .field)))
+step-held o s f p b h l small most a = rw (step-good f p b (h .answer)) (go _ refl (rw (step-good f p b (h .answer)) at a))
+  where
+    held : Held o (s ++ (b ∷ [])) (hold f b) p
+    held = hold-held o s f p b h (omega (arith, length-most (tag f))) small
+
+    go : (v : Verdict) → verdict (hold f b) (p .count) ≡ v → settled (verdict (hold f b) (p .count)) (hold f b) p .field .answer ≡ Accepted
+        → Held o (s ++ (b ∷ [])) (settled (verdict (hold f b) (p .count)) (hold f b) p .field) (settled (verdict (hold f b) (p .count)) (hold f b) p .plan)
+        × (settled (verdict (hold f b) (p .count)) (hold f b) p .field .count < 3 + lengthFor (tag (settled (verdict (hold f b) (p .count)) (hold f b) p .field)))
+    go Waits e q = rw e (held, waits-short (hold f b) (p .count) e)
+    go (Bad x) e q = accepted-not-refused {x = x} q (rw e)
+    go Good e q =
+        let d : Found (hold f b) = good-found (hold f b) (p .count) e in
+        let whole : hold f b .count ≡ 3 + lengthFor (tag (hold f b)) = omega (arith, hold-short f b l, d .whole) in
+        rw e (taken-held o (s ++ (b ∷ [])) (hold f b) p held d whole (omega (arith, length-append s (b ∷ []))) (good-room (hold f b) (p .count) e), omega (arith, next-count (hold f b) (p .placed)))
+
+-- a file that is read without a refusal
+pub read-held : (o : Bool) (bs s : List ℕ) (f : Field) (p : Plan) → Held o s f p → f .count < 3 + lengthFor (tag f) → ((i : ℕ) → getD bs i 0 < 256) → length s + length bs ≤ 18446744073709551615
+    → read (reader f p) bs .field .answer ≡ Accepted → Held o (s ++ bs) (read (reader f p) bs .field) (read (reader f p) bs .plan)
+unfolding read
+read-held o [] s f p h l small most a = rw append-nil h
+read-held o (b ∷ bs) s f p h l small most a = go _ refl (read-held o bs (s ++ (b ∷ [])))
+  where
+    go : (x : Answer) → step (reader f p) b .field .answer ≡ x
+        → ((g : Field) (q : Plan) → Held o (s ++ (b ∷ [])) g q → g .count < 3 + lengthFor (tag g) → ((i : ℕ) → getD bs i 0 < 256) → length (s ++ (b ∷ [])) + length bs ≤ 18446744073709551615
+            → read (reader g q) bs .field .answer ≡ Accepted → Held o ((s ++ (b ∷ [])) ++ bs) (read (reader g q) bs .field) (read (reader g q) bs .plan))
+        → Held o (s ++ (b ∷ bs)) (read (step (reader f p) b) bs .field) (read (step (reader f p) b) bs .plan)
+    go (Refused x) e ih = accepted-not-refused a (ap (λ (r : Reader). r .field .answer) (read-refused _ _ x bs e) ∙ e)
+    go Accepted e ih =
+        let n : Held o (s ++ (b ∷ [])) (step (reader f p) b .field) (step (reader f p) b .plan) × (step (reader f p) b .field .count < 3 + lengthFor (tag (step (reader f p) b .field))) = step-held o s f p b h l (small 0) (omega arith) e in
+        rw append-assoc at (ih (step (reader f p) b .field) (step (reader f p) b .plan) (n .0) (n .1) (λ i. small (suc i)) (omega (arith, length-append s (b ∷ []))) a)
