@@ -8,7 +8,7 @@ use native.Mathlib.Decide.{ℕ-discrete, decLt}
 use native.Mathlib.Numerals.{add-one}
 use native.Mathlib.Omega.{arith}
 use lib.Dec.{leb, ltb, eqb}
-use lib.ListN.{length, getD, set, take, replicate, length-append, length-set, getD-replicate, List·getD-eq-default}
+use lib.ListN.{length, getD, set, take, replicate, length-append, length-set, length-replicate, getD-replicate, List·getD-eq-default}
 use lib.Seq.{length-take-le, take-suc-set, getD-set-same, getD-set-other}
 use borrow.Author.Tests.{lt-ltb, le-ltb, eq-eqb, ne-eqb, ltb-true}
 use Rattle.tasks.proofs.Bools.{clash, both}
@@ -59,6 +59,7 @@ pub record Held (o : Bool) (s : List ℕ) (f : Field) (p : Plan) : Type 0 where
   pub ends : f .end ≤ f .place
   pub size : length (f .bytes) ≡ 15
   pub small : (i : ℕ) → getD (f .bytes) i 0 < 256
+  pub plain : o ≡ false → f .misshapen ≡ false
   pub named : Bool
   pub good : f .misshapen ≡ false → Content o named s f p
 
@@ -71,6 +72,7 @@ hold-held o s f p b h l k = rw (hold-is f b l) (record {
   ends = h .ends;
   size = length-set (f .bytes) (f .count) b ∙ h .size;
   small = λ i. byte i (ℕ-discrete i (f .count));
+  plain = h .plain;
   named = h .named;
   good = λ m. let c : Content o (h .named) s f p = h .good m in record {
     text = ap (λ (x : List ℕ). x ++ (b ∷ [])) (c .text) ∙ append-assoc (told (h .named) p) (take (f .count) (f .bytes)) (b ∷ []) ∙ ap (λ (x : List ℕ). told (h .named) p ++ x) (sym (rw add-one (take-suc-set (f .bytes) (f .count) b (omega (arith, h .size)))));
@@ -123,23 +125,27 @@ told-piece : (named : Bool) (p : Plan) (z : Piece) → p .placed < length (p .pi
 unfolding told
 told-piece named p z h = rw (row-set pieceField (p .pieces) (p .placed) z noPiece h) (simp append-assoc)
 
-zero-byte : (i : ℕ) → getD (replicate 15 0) i 0 < 256
-zero-byte i = go (decLt i 15)
+-- a list of one entry has it everywhere
+pub cleared : {A : Type 0} (n : ℕ) (d : A) (i : ℕ) → getD (replicate n d) i d ≡ d
+cleared n d i = go (decLt i n)
   where
-    go : Dec (i < 15) → getD (replicate 15 0) i 0 < 256
-    go (yes l) = rw (getD-replicate {A = ℕ} 15 i 0 0 l) (omega arith)
-    go (no l) = rw (List·getD-eq-default {A = ℕ} (replicate 15 0) 0 {n = i} (omega arith)) (omega arith)
+    go : Dec (i < n) → getD (replicate n d) i d ≡ d
+    go (yes l) = getD-replicate n i d d l
+    go (no l) = List·getD-eq-default (replicate n d) d {n = i} (omega (arith, length-replicate n d))
+
+pub zero-byte : (i : ℕ) → getD (replicate 15 0) i 0 < 256
+zero-byte i = rw (cleared {A = ℕ} 15 0 i) (omega arith)
 
 module _ (o : Bool) (s : List ℕ) (g : Field) (p : Plan) (h : Held o s g p) (d : Found g) (e : g .count ≡ 3 + lengthFor (tag g)) (most : length s ≤ 18446744073709551615) where
   next-place : further (g .place) (3 + lengthFor (tag g)) ≡ length s
   next-place = further-is _ _ (omega (arith, h .whole)) ∙ omega (arith, h .whole)
 
   -- the next field stands where what was read ends
-  next-held : (end : ℕ) (w named : Bool) (q : Plan) → end ≤ length s → (w ≡ false → Content o named s (fieldAt (g .pieces) (length s) end w) q) → Held o s (fieldAt (g .pieces) (length s) end w) q
-  next-held end w named q l c = record { kind = h .kind; answer = refl; whole = omega arith; ends = l; size = refl; small = zero-byte; named = named; good = c }
+  next-held : (end : ℕ) (w named : Bool) (q : Plan) → end ≤ length s → (o ≡ false → w ≡ false) → (w ≡ false → Content o named s (fieldAt (g .pieces) (length s) end w) q) → Held o s (fieldAt (g .pieces) (length s) end w) q
+  next-held end w named q l m c = record { kind = h .kind; answer = refl; whole = omega arith; ends = l; size = refl; small = zero-byte; plain = m; named = named; good = c }
 
   taken-cores : tag g ≡ 1 → g .place ≡ 0 → Held o s (fieldAt (g .pieces) (length s) (length s) (g .misshapen)) (withCores p (getD (g .bytes) 3 0))
-  taken-cores t z = next-held (length s) (g .misshapen) true _ (omega arith) content
+  taken-cores t z = next-held (length s) (g .misshapen) true _ (omega arith) (h .plain) content
     where
       content : g .misshapen ≡ false → Content o true s (fieldAt (g .pieces) (length s) (length s) (g .misshapen)) (withCores p (getD (g .bytes) 3 0))
       content m =
@@ -162,7 +168,7 @@ module _ (o : Bool) (s : List ℕ) (g : Field) (p : Plan) (h : Held o s g p) (d 
           }
 
   taken-task : tag g ≡ 2 → g .place ≤ g .end → p .count < 64 → Held o s (fieldAt (g .pieces) (length s) (length s) (g .misshapen)) (withTask p (taskIn g))
-  taken-task t z room = next-held (length s) (g .misshapen) (h .named) _ (omega arith) content
+  taken-task t z room = next-held (length s) (g .misshapen) (h .named) _ (omega arith) (h .plain) content
     where
       content : g .misshapen ≡ false → Content o (h .named) s (fieldAt (g .pieces) (length s) (length s) (g .misshapen)) (withTask p (taskIn g))
       content m =
@@ -188,7 +194,7 @@ module _ (o : Bool) (s : List ℕ) (g : Field) (p : Plan) (h : Held o s g p) (d 
           value c i l (no q) = rw (getD-set-other (p .tasks) (p .count) i (taskIn g) noTask q) (c .values i (omega arith))
 
   taken-piece : tag g ≡ 3 → g .pieces ≡ true → pieceTaken g (p .placed) ≡ true → Held o s (fieldAt (g .pieces) (length s) (g .end) (g .misshapen)) (withPiece p (pieceIn g))
-  taken-piece t z k = next-held (g .end) (g .misshapen) (h .named) _ (omega (arith, h .ends, h .whole)) content
+  taken-piece t z k = next-held (g .end) (g .misshapen) (h .named) _ (omega (arith, h .ends, h .whole)) (h .plain) content
     where
       content : g .misshapen ≡ false → Content o (h .named) s (fieldAt (g .pieces) (length s) (g .end) (g .misshapen)) (withPiece p (pieceIn g))
       content m =
@@ -235,7 +241,7 @@ module _ (o : Bool) (s : List ℕ) (g : Field) (p : Plan) (h : Held o s g p) (d 
     where
       of-piece : tag g ≡ 3 → g .pieces ≡ true → (b : Bool) → pieceTaken g (p .placed) ≡ b → Held o s (fieldAt (g .pieces) (length s) (g .end) (cond b (g .misshapen) true)) (cond b (withPiece p (pieceIn g)) p)
       of-piece t z true k = taken-piece t z k
-      of-piece t z false k = next-held (g .end) true (h .named) p (omega (arith, h .ends, h .whole)) (λ q. clash refl q)
+      of-piece t z false k = next-held (g .end) true (h .named) p (omega (arith, h .ends, h .whole)) (λ q. clash z (h .kind ∙ q)) (λ q. clash refl q)
 
       go : ((tag g ≡ 1) × (g .place ≡ 0)) ⊎ (((tag g ≡ 2) × (g .place ≤ g .end)) ⊎ ((tag g ≡ 3) × (g .pieces ≡ true))) → Held o s (nextField g (p .placed)) (added g p)
       go (inl t) = rw (plain-next (p .placed) (λ q. omega arith), cores-added (t .0)) (taken-cores (t .0) (t .1))
@@ -287,7 +293,7 @@ read-held o (b ∷ bs) s f p h l small most a = go _ refl (read-held o bs (s ++ 
   where
     go : (x : Answer) → step (reader f p) b .field .answer ≡ x
         → ((g : Field) (q : Plan) → Held o (s ++ (b ∷ [])) g q → g .count < 3 + lengthFor (tag g) → ((i : ℕ) → getD bs i 0 < 256) → length (s ++ (b ∷ [])) + length bs ≤ 18446744073709551615
-            → read (reader g q) bs .field .answer ≡ Accepted → Held o ((s ++ (b ∷ [])) ++ bs) (read (reader g q) bs .field) (read (reader g q) bs .plan))
+        → read (reader g q) bs .field .answer ≡ Accepted → Held o ((s ++ (b ∷ [])) ++ bs) (read (reader g q) bs .field) (read (reader g q) bs .plan))
         → Held o (s ++ (b ∷ bs)) (read (step (reader f p) b) bs .field) (read (step (reader f p) b) bs .plan)
     go (Refused x) e ih = accepted-not-refused a (ap (λ (r : Reader). r .field .answer) (read-refused _ _ x bs e) ∙ e)
     go Accepted e ih =

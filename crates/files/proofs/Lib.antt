@@ -9,3 +9,4 @@ pub mod Same
 pub mod RoundTrip
 pub mod Taken
 pub mod Accepted
+pub mod Files
