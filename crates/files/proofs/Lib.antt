@@ -10,3 +10,5 @@ pub mod RoundTrip
 pub mod Taken
 pub mod Accepted
 pub mod Files
+pub mod Trips
+pub mod Parts
