@@ -1,27 +1,26 @@
 -- What has been read of a file is, byte for byte, what the writer would write of it.
 use mathlib.Core.Path.{_≡_, refl, sym, ap, _∙_}
-use mathlib.Core.Bool.{Bool, true, false, not, _&&_, cond}
+use mathlib.Core.Bool.{Bool, true, false, cond}
 use mathlib.Core.List.{List, [], _∷_, _++_, append-assoc, append-nil}
 use mathlib.Core.Logic.{_⊎_, inl, inr}
-use Prim.Native.Nat.{ℕ, zero, suc, _+_, _*_, _-_, _≤_, _<_}
+use Prim.Native.Nat.{ℕ, zero, suc, _+_, _-_, _≤_, _<_}
 use native.Mathlib.Decide.{ℕ-discrete, decLt}
 use native.Mathlib.Numerals.{add-one}
 use native.Mathlib.Omega.{arith}
-use lib.Dec.{leb, ltb, eqb}
+use lib.Dec.{eqb}
 use lib.ListN.{length, getD, set, take, replicate, length-append, length-set, length-replicate, getD-replicate, List·getD-eq-default}
 use lib.Seq.{length-take-le, take-suc-set, getD-set-same, getD-set-other}
-use borrow.Author.Tests.{lt-ltb, le-ltb, eq-eqb, ne-eqb, ltb-true}
-use Rattle.tasks.proofs.Bools.{clash, both}
+use borrow.Author.Tests.{eq-eqb, ne-eqb}
+use Rattle.tasks.proofs.Bools.{clash}
 use Rattle.tasks.specs.Tables.{noTask, coresFit, valuesFit}
 use Rattle.tasks.specs.declared.Answer.{Answer}
 use Rattle.tasks.specs.declared.Answer.the-variants.{Accepted, Refused}
-use Rattle.tasks.specs.declared.Refusal.{Refusal}
 use Rattle.tasks.specs.declared.Task.{Task}
 use Rattle.plans.specs.Pieces.{noPiece, taskOf, pieceOf, CleanPlan}
 use Rattle.plans.specs.declared.Piece.{Piece}
 use Rattle.plans.specs.declared.Plan.{Plan}
-use Rattle.files.specs.Fields.{number2, coreField, taskField, pieceField, row}
-use Rattle.files.specs.Reading.{tag, lengthFor, taskIn, pieceIn, verdict, hold, fieldAt, further, pieceTaken, nextField, withCores, withTask, withPiece, added, settled, step, read, begun, emptyPlan}
+use Rattle.files.specs.Fields.{coreField, taskField, pieceField, row}
+use Rattle.files.specs.Reading.{tag, lengthFor, taskIn, pieceIn, verdict, hold, fieldAt, further, pieceTaken, nextField, withCores, withTask, withPiece, added, settled, step, read}
 use Rattle.files.specs.declared.Field.{Field}
 use Rattle.files.specs.declared.Reader.{Reader}
 use Rattle.files.specs.declared.Verdict.{Verdict}
@@ -29,7 +28,7 @@ use Rattle.files.specs.declared.Verdict.the-variants.{Waits, Bad, Good}
 use Rattle.files.proofs.Fields.{piece-room, piece-kind}
 use Rattle.files.proofs.Good.{accepted-not-refused}
 use Rattle.files.proofs.ReadBack.{hold-is, length-most}
-use Rattle.files.proofs.Reading.{reader, read-refused, step-good, hold-answer, good-room}
+use Rattle.files.proofs.Reading.{reader, read-refused, step-good, good-room}
 use Rattle.files.proofs.RoundTrip.{further-is}
 use Rattle.files.proofs.Taken.{Found, good-found, waits-short, tag-cases, cores-good, values-good, core-text, task-text, piece-text}
 

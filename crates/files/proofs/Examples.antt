@@ -1,12 +1,11 @@
 -- Document 01's file for two cores and one task (6,10,10), and small files that are refused.
 use mathlib.Core.Path.{_≡_, refl}
-use mathlib.Core.Bool.{true, false}
 use mathlib.Core.List.{List, [], _∷_, _++_}
 use Prim.Native.Nat.{ℕ}
-use lib.ListN.{replicate, length}
+use lib.ListN.{replicate}
 use Rattle.tasks.specs.declared.Answer.the-variants.{Accepted, Refused}
-use Rattle.tasks.specs.declared.Refusal.the-variants.{CutShort, WrongTag, WrongLength, CoresAt, ValuesAt, TasksAt, NoPlanShape}
-use Rattle.tasks.specs.Tables.{taskOf, noTask}
+use Rattle.tasks.specs.declared.Refusal.the-variants.{CutShort, WrongTag, CoresAt, TasksAt}
+use Rattle.tasks.specs.Tables.{noTask}
 use Rattle.tasks.specs.declared.Table.{Table}
 use Rattle.files.specs.Fields.{tableBytes, tasksBytes, coreField, taskField, row}
 use Rattle.files.specs.Reading.{tableRead, tableClosed, read, step, verdict, hold, tagFits, values, nextField, added, further, endedAfter}

@@ -2,34 +2,28 @@
 use mathlib.Core.Path.{_≡_, refl, sym, ap, _∙_}
 use mathlib.Core.Bool.{Bool, true, false, not, _&&_, cond}
 use mathlib.Core.List.{List, [], _∷_, _++_, append-assoc, append-nil}
-use Prim.Native.Nat.{ℕ, zero, suc, _+_, _*_, _-_, _≤_, _<_}
-use native.Mathlib.Decide.{decLt}
+use Prim.Native.Nat.{ℕ, zero, suc, _+_, _-_, _≤_, _<_}
 use native.Mathlib.Omega.{arith}
 use lib.Arith.{le-zero}
-use lib.Dec.{leb, ltb, eqb}
-use lib.ListN.{length, getD, take, drop, replicate, length-append}
+use lib.Dec.{ltb, eqb}
+use lib.ListN.{length, getD, take}
 use borrow.Author.Tests.{ltb-false, eqb-false, le-leb}
 use Rattle.tasks.proofs.Bools.{both-make}
-use Rattle.tasks.proofs.Tables.{all-good, counts-say}
-use Rattle.tasks.specs.Tables.{noTask, coresFit, tasksFit, valuesFit, checkedTable, checkedTasks, andThen}
-use Rattle.tasks.specs.Tables.{taskOf as taskOfTable}
+use Rattle.tasks.proofs.Tables.{all-good}
+use Rattle.tasks.specs.Tables.{noTask, checkedTable, checkedTasks, andThen}
 use Rattle.tasks.specs.declared.Answer.{Answer}
 use Rattle.tasks.specs.declared.Answer.the-variants.{Accepted, Refused}
 use Rattle.tasks.specs.declared.Refusal.{Refusal}
 use Rattle.tasks.specs.declared.Refusal.the-variants.{NoPlanShape}
 use Rattle.tasks.specs.declared.Table.{Table}
-use Rattle.plans.specs.Pieces.{noPiece, taskOf, pieceOf, CleanPlan}
+use Rattle.plans.specs.Pieces.{noPiece, taskOf, pieceOf}
 use Rattle.plans.specs.Shape.{checkedPlan, shape}
 use Rattle.plans.specs.declared.Plan.{Plan}
-use Rattle.files.specs.Fields.{coreField, taskField, pieceField, row, tasksBytes, tableBytes, planBytes}
+use Rattle.files.specs.Fields.{coreField, taskField, row, tasksBytes, tableBytes, planBytes}
 use Rattle.files.specs.Reading.{defaultCores, fieldAt, read, begun, emptyPlan, endedAfter, planEnded, tableAnswered, planAnswered, tableClosed, tableRead, planClosed, planRead}
 use Rattle.files.specs.declared.Field.{Field}
-use Rattle.files.specs.declared.Reader.{Reader}
-use Rattle.files.specs.declared.ReadPlan.{ReadPlan}
-use Rattle.files.specs.declared.ReadTable.{ReadTable}
 use Rattle.files.proofs.Accepted.{told, Content, Held, read-held, cleared, zero-byte}
 use Rattle.files.proofs.Good.{accepted-not-refused}
-use Rattle.files.proofs.Reading.{reader}
 
 -- a lent slice: each byte is below 256, and the length fits a machine word
 pub record Slice (s : List ℕ) : Type 0 where

@@ -1,96 +1,41 @@
--- What it says of a record that its check accepts it.
-use mathlib.Core.Path.{_≡_, refl, sym, _∙_}
-use mathlib.Core.Bool.{Bool, true, false, not, _&&_, cond}
-use Prim.Native.Nat.{ℕ, _+_, _-_, _≤_, _<_}
+-- A record whose numbers are in their ranges is accepted.
+use mathlib.Core.Path.{_≡_, sym, _∙_}
+use mathlib.Core.Bool.{true, _&&_}
+use Prim.Native.Nat.{ℕ, _≤_}
 use native.Mathlib.Omega.{arith}
-use lib.Dec.{leb, eqb}
-use borrow.Author.Tests.{leb-true, not-false}
-use Rattle.tasks.proofs.Below.{any-make, all-each}
-use Rattle.tasks.proofs.Bools.{both}
-use Rattle.tasks.proofs.Tables.{bad-cores, bad-count, all-good, counts-say}
-use Rattle.tasks.specs.Below.{any, first, all}
-use Rattle.tasks.specs.Tables.{taskNo, coresFit, tasksFit, valuesFit, checkedTasks, andThen}
+use lib.Dec.{leb}
+use borrow.Author.Tests.{le-leb, leb-true}
+use Rattle.tasks.proofs.Bools.{both-make}
+use Rattle.tasks.proofs.Tables.{Ranges, GoodTable, accepted-good, all-good, values-last}
+use Rattle.tasks.specs.Tables.{taskOf, valuesFit, checkedTasks, checkedTable}
 use Rattle.tasks.specs.declared.Answer.{Answer}
 use Rattle.tasks.specs.declared.Answer.the-variants.{Accepted, Refused}
 use Rattle.tasks.specs.declared.Refusal.{Refusal}
-use Rattle.tasks.specs.declared.Refusal.the-variants.{ValuesOf, NoPlanShape}
+use Rattle.tasks.specs.declared.Table.{Table}
 use Rattle.tasks.specs.declared.Task.{Task}
-use Rattle.plans.proofs.Shaped.{tasks-refused, shape-refused, shape-accepted}
-use Rattle.plans.specs.Pieces.{taskOf, pieceOf}
-use Rattle.plans.specs.Shape.{shape, pieceFits, checkedPlan}
-use Rattle.plans.specs.declared.Piece.{Piece}
+use Rattle.plans.proofs.InShape.{GoodPlan, accepted-plan, tests}
+use Rattle.plans.proofs.Shaped.{shape-accepted}
+use Rattle.plans.specs.Shape.{checkedPlan}
 use Rattle.plans.specs.declared.Plan.{Plan}
 
 pub accepted-not-refused : {X : Type 0} {a : Answer} {x : Refusal} → a ≡ Accepted → a ≡ Refused x → X
 accepted-not-refused {a} {x} h k = let z : _≡_ {A = ℕ} 0 1 = cc in absurd (omega arith)
 
--- cores, tasks and values in their ranges
-pub record GoodTasks (m n : ℕ) (ts : ℕ → Task) : Type 0 where
-  pub cores : coresFit m ≡ true
-  pub count : tasksFit n ≡ true
-  pub values : (i : ℕ) → i < n → valuesFit (ts i) ≡ true
+pub values-fit : (t : Task) → Ranges t → valuesFit t ≡ true
+values-fit t r = sym (values-last t (r .some) (r .short) (r .inside)) ∙ le-leb _ _ (r .most)
 
-module _ (m n : ℕ) (ts : ℕ → Task) where
-  bad-values-found : coresFit m ≡ true → tasksFit n ≡ true → any n (λ k. not (valuesFit (ts k))) ≡ true → checkedTasks m n ts ≡ Refused (ValuesOf (taskNo (first n (λ k. not (valuesFit (ts k))))))
-  unfolding checkedTasks
-  bad-values-found a b h = rw (a, b, h)
+pub counts-fit : (x most : ℕ) → (1 ≤ x) × (x ≤ most) → leb 1 x && leb x most ≡ true
+counts-fit x most h = both-make (le-leb 1 x (h .0)) (le-leb x most (h .1))
 
-  pub tasks-good : checkedTasks m n ts ≡ Accepted → GoodTasks m n ts
-  tasks-good h = record { cores = cores; count = count; values = λ i l. each i l _ refl }
-    where
-      cores : coresFit m ≡ true
-      cores = go _ refl
-        where
-          go : (b : Bool) → coresFit m ≡ b → coresFit m ≡ true
-          go true e = e
-          go false e = accepted-not-refused h (bad-cores m n ts e)
+pub tasks-accepted : (m n : ℕ) (ts : ℕ → Task) → GoodTable m n ts → checkedTasks m n ts ≡ Accepted
+tasks-accepted m n ts g = all-good m n ts (counts-fit m 16 (g .cores)) (counts-fit n 64 (g .tasks)) (λ i l. values-fit (ts i) (g .values i l))
 
-      count : tasksFit n ≡ true
-      count = go _ refl
-        where
-          go : (b : Bool) → tasksFit n ≡ b → tasksFit n ≡ true
-          go true e = e
-          go false e = accepted-not-refused h (bad-count m n ts cores e)
+pub plan-accepted : (p : Plan) → GoodPlan p → checkedPlan p ≡ Accepted
+plan-accepted p g = shape-accepted p (tasks-accepted _ _ _ (g .table)) (g .shaped)
 
-      each : (i : ℕ) → i < n → (b : Bool) → valuesFit (ts i) ≡ b → valuesFit (ts i) ≡ true
-      each i l true e = e
-      each i l false e = accepted-not-refused h (bad-values-found cores count (any-make n (λ k. not (valuesFit (ts k))) i l (rw e)))
+-- what an accepted record's counts are at most
+pub table-small : (t : Table) (a : Answer) → a ≡ checkedTable t → a ≡ Accepted → (t .cores ≤ 16) × (t .count ≤ 64)
+table-small t a h e = let g : GoodTable (t .cores) (t .count) (taskOf t) = accepted-good _ _ _ (sym h ∙ e) in (g .cores .1, g .tasks .1)
 
-  pub cores-most : GoodTasks m n ts → (1 ≤ m) × (m ≤ 16)
-  cores-most g = counts-say m 16 (g .cores)
-
-  pub count-most : GoodTasks m n ts → (1 ≤ n) × (n ≤ 64)
-  count-most g = counts-say n 64 (g .count)
-
--- a plan with this shape
-pub record GoodPlan (p : Plan) : Type 0 where
-  pub tasks : GoodTasks (p .cores) (p .count) (taskOf p)
-  pub shaped : shape (p .cores) (p .count) (taskOf p) (pieceOf p) (p .placed) ≡ true
-
-module _ (p : Plan) where
-  pub plan-good : checkedPlan p ≡ Accepted → GoodPlan p
-  plan-good h = record { tasks = tasks-good _ _ _ tasks; shaped = shaped _ refl }
-    where
-      tasks : checkedTasks (p .cores) (p .count) (taskOf p) ≡ Accepted
-      tasks = go _ refl
-        where
-          go : (a : Answer) → checkedTasks (p .cores) (p .count) (taskOf p) ≡ a → checkedTasks (p .cores) (p .count) (taskOf p) ≡ Accepted
-          go Accepted e = e
-          go (Refused x) e = accepted-not-refused h (tasks-refused p x e)
-
-      shaped : (b : Bool) → shape (p .cores) (p .count) (taskOf p) (pieceOf p) (p .placed) ≡ b → shape (p .cores) (p .count) (taskOf p) (pieceOf p) (p .placed) ≡ true
-      shaped true e = e
-      shaped false e = accepted-not-refused h (shape-refused p tasks e)
-
-  pub plan-accepted : GoodPlan p → checkedPlan p ≡ Accepted
-  plan-accepted g = shape-accepted p (all-good _ _ _ (g .tasks .cores) (g .tasks .count) (g .tasks .values)) (g .shaped)
-
-module _ (m count : ℕ) (ts : ℕ → Task) (pc : ℕ → Piece) (n : ℕ) where
-  -- at most 128 pieces, and every one fits
-  pub shape-says : shape m count ts pc n ≡ true → (n ≤ 128) × ((j : ℕ) → j < n → pieceFits m count ts pc n j ≡ true)
-  unfolding shape
-  shape-says h =
-      let a : (leb 1 n && leb n 128 && all n (pieceFits m count ts pc n) ≡ true) × (eqb (pc (n - 1) .task .0 + 1) count ≡ true) = both h in
-      let b : (leb 1 n && leb n 128 ≡ true) × (all n (pieceFits m count ts pc n) ≡ true) = both (a .0) in
-      let d : (leb 1 n ≡ true) × (leb n 128 ≡ true) = both (b .0) in
-      (leb-true _ _ (d .1), all-each n _ (b .1))
+pub plan-small : (p : Plan) (a : Answer) → a ≡ checkedPlan p → a ≡ Accepted → (p .cores ≤ 16) × (p .count ≤ 64) × (p .placed ≤ 128)
+plan-small p a h e = let g : GoodPlan p = accepted-plan p (sym h ∙ e) in (g .table .cores .1, g .table .tasks .1, leb-true _ _ (tests _ _ _ _ _ (g .shaped) .1))

@@ -1,7 +1,7 @@
 -- Numbers of four bytes, high byte first: written and read back.
-use mathlib.Core.Path.{_≡_, refl, sym, ap, _∙_}
-use mathlib.Core.List.{List, [], _∷_}
-use Prim.Native.Nat.{ℕ, _+_, _*_, _/_, _%_, _≤_, _<_}
+use mathlib.Core.Path.{_≡_}
+use mathlib.Core.List.{[], _∷_}
+use Prim.Native.Nat.{ℕ, _+_, _*_, _/_, _%_, _<_}
 use native.Mathlib.Omega.{arith}
 use Rattle.files.specs.Fields.{bytes4}
 

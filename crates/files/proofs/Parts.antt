@@ -1,15 +1,16 @@
 -- The table in force: its part is exactly the task fields of the slice in force, so it is empty only where both slices are bad.
 use mathlib.Core.Path.{_≡_, refl, sym, ap, _∙_}
-use mathlib.Core.Bool.{Bool, true, false, _&&_, cond}
-use mathlib.Core.List.{List, [], _∷_, _++_, append-nil}
-use Prim.Native.Nat.{ℕ, _+_, _-_, _*_, _≤_, _<_}
+use mathlib.Core.Bool.{Bool, true, false}
+use mathlib.Core.List.{List, [], _++_}
+use Prim.Native.Nat.{ℕ, _+_, _-_, _≤_}
 use native.Mathlib.Omega.{arith}
 use lib.Dec.{leb, eqb}
-use lib.ListN.{length, getD, take, drop, length-append, length-drop}
+use lib.ListN.{length, getD, drop, length-drop}
 use lib.Seq.{take-all}
-use borrow.Author.Tests.{le-leb, eq-eqb, ne-eqb, eqb-true, eqb-false}
+use borrow.Author.Tests.{le-leb}
 use denote.Ref.{RefT, ptr, now}
 use Rattle.tasks.proofs.Bools.{not-second}
+use Rattle.tasks.proofs.Tables.{accepted-good}
 use Rattle.tasks.specs.Tables.{taskOf}
 use Rattle.tasks.specs.declared.Answer.{Answer}
 use Rattle.tasks.specs.declared.Answer.the-variants.{Accepted, Refused}
@@ -18,10 +19,7 @@ use Rattle.tasks.specs.declared.Table.{Table}
 use Rattle.files.specs.Fields.{coreField, taskField, row, tasksBytes, tableBytes}
 use Rattle.files.specs.InForce.{IsPart, firstTask, TaskFields, IsInForce, choice, inForce}
 use Rattle.files.specs.Reading.{defaultCores, tableRead}
-use Rattle.files.specs.declared.InForce.{InForce}
-use Rattle.files.specs.declared.InForce.the-variants.{Own, Shipped, Neither}
 use Rattle.files.proofs.Files.{Slice, table-written-again, table-is-good}
-use Rattle.files.proofs.Good.{tasks-good, count-most}
 use Rattle.files.proofs.Writing.{task-field-length, row-length}
 
 -- two parts that a contract allows are one
@@ -58,7 +56,7 @@ module _ (s : List ℕ) (lent : Slice s) (accepted : tableRead s .answer ≡ Acc
   -- and it is not empty
   pub tasks-some : 15 ≤ length (fieldsOf (tableRead s .table))
   tasks-some =
-      let n : (1 ≤ tableRead s .table .count) × (tableRead s .table .count ≤ 64) = count-most _ _ _ (tasks-good _ _ _ (table-is-good s lent accepted)) in
+      let n : (1 ≤ tableRead s .table .count) × (tableRead s .table .count ≤ 64) = accepted-good _ _ _ (table-is-good s lent accepted) .tasks in
       omega (arith, row-length 15 (tableRead s .table .count) (λ i. taskField (taskOf (tableRead s .table) i)) (λ i. task-field-length (taskOf (tableRead s .table) i)))
 
 -- the part that is said to hold a good slice's task fields holds them, and is not empty

@@ -1,14 +1,13 @@
 -- What a field writer writes is read as the field that it was written for.
-use mathlib.Core.Path.{_≡_, refl, sym, ap, _∙_}
-use mathlib.Core.Bool.{Bool, true, false, not, _&&_, cond}
+use mathlib.Core.Path.{_≡_, refl, ap, _∙_}
+use mathlib.Core.Bool.{Bool, true, false, _&&_, cond}
 use mathlib.Core.List.{List, [], _∷_, _++_}
-use Prim.Native.Nat.{ℕ, zero, suc, _+_, _*_, _-_, _/_, _%_, _≤_, _<_}
-use native.Mathlib.Numerals.{add-one}
+use Prim.Native.Nat.{ℕ, _+_, _-_, _/_, _%_, _≤_, _<_}
 use native.Mathlib.Omega.{arith}
 use lib.Dec.{leb, ltb, eqb}
 use lib.ListN.{length, getD, set, replicate}
 use lib.Seq.{getD-set-other}
-use borrow.Author.Tests.{le-leb, lt-leb, lt-ltb, le-ltb, eq-eqb}
+use borrow.Author.Tests.{le-leb, lt-leb, lt-ltb, le-ltb}
 use Rattle.tasks.proofs.Tables.{Ranges, values-say}
 use Rattle.tasks.specs.Tables.{coresFit, valuesFit}
 use Rattle.tasks.specs.declared.Answer.the-variants.{Accepted}
@@ -18,11 +17,11 @@ use Rattle.plans.specs.declared.Kind.the-variants.{Whole, Share}
 use Rattle.plans.specs.declared.Piece.{Piece}
 use Rattle.plans.specs.declared.Plan.{Plan}
 use Rattle.files.specs.Fields.{number2, number4, bytes4, kindByte, coreField, taskField, pieceField}
-use Rattle.files.specs.Reading.{tag, tagFits, lengthFor, taskIn, pieceIn, kindOf, values, verdict, hold, fieldAt, further, pieceTaken, nextField, withTask, withPiece, added, settled, step, read, begun, emptyPlan}
+use Rattle.files.specs.Reading.{tag, tagFits, lengthFor, kindOf, values, verdict, hold, fieldAt, further, pieceTaken, nextField, withTask, withPiece, added, settled, step, read, begun, emptyPlan}
 use Rattle.files.specs.declared.Field.{Field}
 use Rattle.files.specs.declared.Reader.{Reader}
 use Rattle.files.specs.declared.Verdict.{Verdict}
-use Rattle.files.specs.declared.Verdict.the-variants.{Waits, Bad, Good}
+use Rattle.files.specs.declared.Verdict.the-variants.{Waits}
 use Rattle.files.proofs.Numbers.{number-back}
 use Rattle.files.proofs.Reading.{reader, step-good, hold-answer}
 

@@ -1,21 +1,19 @@
 -- Laws of reading: one byte more, what a refusal does, and that reading in parts gives what reading the whole gives.
 use mathlib.Core.Path.{_≡_, refl, sym, ap, _∙_}
-use mathlib.Core.Bool.{Bool, true, false, not, _&&_, cond}
+use mathlib.Core.Bool.{Bool, true, false, not, cond}
 use mathlib.Core.List.{List, [], _∷_, _++_}
-use Prim.Native.Nat.{ℕ, zero, suc, _+_, _<_, _≤_}
+use Prim.Native.Nat.{ℕ, suc, _+_, _<_, _≤_}
 use native.Mathlib.Numerals.{add-one}
 use native.Mathlib.Omega.{arith}
 use lib.Dec.{ltb, leb, eqb}
 use lib.ListN.{length, getD, drop, drop-of-length-le}
 use lib.Seq.{drop-cons}
-use borrow.Author.Tests.{leb-true, leb-false, eq-eqb}
-use Rattle.tasks.proofs.Bools.{clash}
+use borrow.Author.Tests.{leb-false, eq-eqb}
 use Rattle.tasks.specs.declared.Answer.{Answer}
 use Rattle.tasks.specs.declared.Answer.the-variants.{Accepted, Refused}
 use Rattle.tasks.specs.declared.Refusal.{Refusal}
 use Rattle.plans.specs.declared.Plan.{Plan}
-use Rattle.files.specs.Fields.{number2}
-use Rattle.files.specs.Reading.{tag, tagFits, lengthFor, values, verdict, hold, nextField, settled, stepped, step, read}
+use Rattle.files.specs.Reading.{tag, tagFits, verdict, hold, nextField, settled, stepped, step, read}
 use Rattle.files.specs.declared.Field.{Field}
 use Rattle.files.specs.declared.Reader.{Reader}
 use Rattle.files.specs.declared.Verdict.{Verdict}

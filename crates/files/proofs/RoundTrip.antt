@@ -1,31 +1,30 @@
 -- What is written of a good record reads back to the same record.
 use mathlib.Core.Path.{_≡_, refl, sym, ap, _∙_}
-use mathlib.Core.Bool.{Bool, true, false, not, cond}
-use mathlib.Core.List.{List, [], _∷_, _++_, append-assoc, append-nil}
+use mathlib.Core.Bool.{Bool, true, false}
+use mathlib.Core.List.{List}
 use Prim.Native.Nat.{ℕ, zero, suc, _+_, _*_, _-_, _≤_, _<_}
 use native.Mathlib.Numerals.{add-one}
 use native.Mathlib.Omega.{arith}
-use lib.Dec.{leb, ltb, eqb}
-use lib.ListN.{length, getD, set, replicate}
-use borrow.Author.Tests.{le-leb, lt-ltb, ne-eqb}
-use Rattle.tasks.proofs.Padded.{padded-in, padded-out, padded-is, padded-more}
+use lib.ListN.{length}
+use borrow.Author.Tests.{le-leb, leb-true, ne-eqb}
+use Rattle.tasks.proofs.Padded.{padded-in, padded-is, padded-more}
+use Rattle.tasks.proofs.Tables.{GoodTable, accepted-good}
 use Rattle.tasks.specs.Below.{padded, tabulate}
-use Rattle.tasks.specs.Tables.{noTask, coresFit, valuesFit, checkedTable, SameTable, CleanTable, andThen}
+use Rattle.tasks.specs.Tables.{noTask, coresFit, valuesFit, checkedTable, SameTable, CleanTable}
 use Rattle.tasks.specs.Tables.{taskOf as taskOfTable}
-use Rattle.tasks.specs.declared.Answer.{Answer}
-use Rattle.tasks.specs.declared.Answer.the-variants.{Accepted, Refused}
+use Rattle.tasks.specs.declared.Answer.the-variants.{Accepted}
 use Rattle.tasks.specs.declared.Task.{Task}
 use Rattle.tasks.specs.declared.Table.{Table}
 use Rattle.plans.specs.Pieces.{noPiece, taskOf, pieceOf}
+use Rattle.plans.proofs.InShape.{GoodPlan, accepted-plan, tests}
 use Rattle.plans.specs.Shape.{checkedPlan}
 use Rattle.plans.specs.declared.Piece.{Piece}
 use Rattle.plans.specs.declared.Plan.{Plan}
 use Rattle.files.specs.Fields.{coreField, taskField, pieceField, row, tasksBytes, tableBytes, planBytes}
-use Rattle.files.specs.Reading.{fieldAt, further, withTask, withPiece, read, begun, emptyPlan, endedAfter, tableAnswered, tableClosed, tableRead, planEnded, planAnswered, planClosed, planRead}
+use Rattle.files.specs.Reading.{fieldAt, further, read, begun, emptyPlan, endedAfter, tableClosed, tableRead, planEnded, planClosed, planRead}
 use Rattle.files.specs.declared.Field.{Field}
 use Rattle.files.specs.declared.Reader.{Reader}
-use Rattle.files.specs.declared.ReadTable.{ReadTable}
-use Rattle.files.proofs.Good.{GoodTasks, GoodPlan, tasks-good, plan-good, plan-accepted, cores-most, count-most, shape-says}
+use Rattle.files.proofs.Good.{values-fit, counts-fit, plan-accepted}
 use Rattle.files.proofs.Same.{shape-same, tasks-same, costs-fit}
 use Rattle.files.proofs.ReadBack.{read-cores, read-task, read-piece}
 use Rattle.files.proofs.Reading.{reader, read-parts}
@@ -64,9 +63,9 @@ module _ (o : Bool) (m : ℕ) (ts : ℕ → Task) (pc : ℕ → Piece) where
   read-tasks h zero l v = read-none _ (λ i. taskField (ts i)) ∙ begun-is (read-cores o m h)
   read-tasks h (suc n) l v = read-row _ n (λ i. taskField (ts i)) ∙ ap (λ (r : Reader). read r (taskField (ts n))) (read-tasks h n (omega arith) (λ i k. v i (omega arith))) ∙ one-more n l (v n (omega arith))
 
-  pub tasks-read : (n : ℕ) → GoodTasks m n ts → read (begun o) (tasksBytes m n ts) ≡ after n
+  pub tasks-read : (n : ℕ) → GoodTable m n ts → read (begun o) (tasksBytes m n ts) ≡ after n
   unfolding tasksBytes
-  tasks-read n g = sym (read-parts (begun o) (coreField m) (row n (λ i. taskField (ts i)))) ∙ read-tasks (g .cores) n (count-most m n ts g .1) (g .values)
+  tasks-read n g = sym (read-parts (begun o) (coreField m) (row n (λ i. taskField (ts i)))) ∙ read-tasks (counts-fit m 16 (g .cores)) n (g .tasks .1) (λ i l. values-fit (ts i) (g .values i l))
 
 -- ---- tables
 
@@ -82,8 +81,8 @@ table-closes o q m n ts pc h = rw (ne-eqb n 0 (λ e. omega arith))
 pub table-reads-back : (t : Table) → checkedTable t ≡ Accepted → tableRead (tableBytes t) ≡ record { answer = Accepted; table = cleanTable t }
 unfolding tableRead tableBytes
 table-reads-back t h =
-    let g : GoodTasks (t .cores) (t .count) (taskOfTable t) = tasks-good _ _ _ h in
-    ap tableClosed (tasks-read false (t .cores) (taskOfTable t) (λ j. noPiece) (t .count) g) ∙ table-closes _ _ _ _ _ _ (count-most _ _ _ g .0)
+    let g : GoodTable (t .cores) (t .count) (taskOfTable t) = accepted-good _ _ _ h in
+    ap tableClosed (tasks-read false (t .cores) (taskOfTable t) (λ j. noPiece) (t .count) g) ∙ table-closes _ _ _ _ _ _ (g .tasks .0)
 
 pub clean-same : (t : Table) → t .count ≤ 64 → SameTable t (cleanTable t)
 clean-same t h = record { cores = refl; count = refl; tasks = λ i l. sym (padded-in 64 noTask (t .count) (taskOfTable t) i l (omega arith)) }
@@ -116,21 +115,21 @@ plan-closes f p a b c d h = rw (a, b, ne-eqb (p .count) 0 (λ e. omega arith), c
 
 clean-good : (p : Plan) → GoodPlan p → GoodPlan (cleanPlan p)
 clean-good p g =
-    let n : p .count ≤ 64 = count-most _ _ _ (g .tasks) .1 in
-    let k : p .placed ≤ 128 = shape-says _ _ _ _ _ (g .shaped) .0 in
+    let n : p .count ≤ 64 = g .table .tasks .1 in
+    let k : p .placed ≤ 128 = leb-true _ _ (tests _ _ _ _ _ (g .shaped) .1) in
     let ts : (i : ℕ) → i < p .count → taskOf p i ≡ taskOf (cleanPlan p) i = λ i l. sym (padded-in 64 noTask (p .count) (taskOf p) i l (omega arith)) in
     let pc : (j : ℕ) → j < p .placed → pieceOf p j ≡ pieceOf (cleanPlan p) j = λ j l. sym (padded-in 128 noPiece (p .placed) (pieceOf p) j l (omega arith)) in
-    record { tasks = tasks-same _ _ _ _ ts (g .tasks); shaped = shape-same _ _ _ _ _ _ _ ts pc (g .shaped) }
+    record { table = tasks-same _ _ _ _ ts (g .table); shaped = shape-same _ _ _ _ _ _ _ ts pc (g .shaped) }
 
 -- what is written of a good plan reads back to the same plan
 pub plan-reads-back : (p : Plan) → checkedPlan p ≡ Accepted → planRead (planBytes p) ≡ record { answer = Accepted; plan = cleanPlan p }
 unfolding planRead planBytes
 plan-reads-back p h =
-    let g : GoodPlan p = plan-good p h in
-    let n : (1 ≤ p .count) × (p .count ≤ 64) = count-most _ _ _ (g .tasks) in
-    let k : p .placed ≤ 128 = shape-says _ _ _ _ _ (g .shaped) .0 in
+    let g : GoodPlan p = accepted-plan p h in
+    let n : (1 ≤ p .count) × (p .count ≤ 64) = g .table .tasks in
+    let k : p .placed ≤ 128 = leb-true _ _ (tests _ _ _ _ _ (g .shaped) .1) in
     let here : 4 + 15 * p .count ≡ 4 + 15 * p .count + 10 * 0 = omega arith in
-    let tasks : read (begun true) (tasksBytes (p .cores) (p .count) (taskOf p)) ≡ behind (p .cores) (p .count) (taskOf p) (pieceOf p) 0 = tasks-read true (p .cores) (taskOf p) (pieceOf p) (p .count) (g .tasks) ∙ ap (λ (q : ℕ). reader (fieldAt true q (4 + 15 * p .count) false) (planOf (p .cores) (p .count) (taskOf p) 0 (pieceOf p))) here in
+    let tasks : read (begun true) (tasksBytes (p .cores) (p .count) (taskOf p)) ≡ behind (p .cores) (p .count) (taskOf p) (pieceOf p) 0 = tasks-read true (p .cores) (taskOf p) (pieceOf p) (p .count) (g .table) ∙ ap (λ (q : ℕ). reader (fieldAt true q (4 + 15 * p .count) false) (planOf (p .cores) (p .count) (taskOf p) 0 (pieceOf p))) here in
     ap planClosed (sym (read-parts (begun true) (tasksBytes (p .cores) (p .count) (taskOf p)) (row (p .placed) (λ j. pieceField (pieceOf p j))))
     ∙ ap (λ (r : Reader). read r (row (p .placed) (λ j. pieceField (pieceOf p j)))) tasks
     ∙ read-pieces (p .cores) (p .count) (taskOf p) (pieceOf p) (n .1) (p .placed) k (costs-fit p g))

@@ -1,23 +1,21 @@
 -- A plan's check reads its record only up to its counts, and the costs of a plan of good shape fit four bytes.
-use mathlib.Core.Path.{_≡_, refl, sym, ap, _∙_}
-use mathlib.Core.Bool.{Bool, true, false, not, _&&_, cond}
+use mathlib.Core.Path.{_≡_}
+use mathlib.Core.Bool.{true, not, _&&_}
 use Prim.Native.Nat.{ℕ, zero, suc, _+_, _-_, _≤_, _<_}
 use native.Mathlib.Decide.{decLt}
 use native.Mathlib.Omega.{arith}
 use lib.Dec.{leb, ltb, eqb}
-use borrow.Author.Tests.{lt-ltb, le-ltb, le-leb, ltb-true, leb-true, eqb-true, eq-eqb, not-false}
-use Rattle.tasks.proofs.Below.{all-each, all-make, sum-same, sum-up}
-use Rattle.tasks.proofs.Bools.{both, both-make}
-use Rattle.tasks.proofs.Tables.{Ranges, values-say}
-use Rattle.tasks.specs.Below.{all, sum}
-use Rattle.tasks.specs.Tables.{valuesFit}
+use borrow.Author.Tests.{le-ltb, leb-true}
+use Rattle.tasks.proofs.Below.{all-make, sum-same}
+use Rattle.tasks.proofs.Bools.{both-make}
+use Rattle.tasks.proofs.Tables.{Ranges, GoodTable}
 use Rattle.tasks.specs.declared.Task.{Task}
-use Rattle.plans.proofs.Shaped.{Fits, fits-say}
+use Rattle.plans.proofs.InShape.{GoodPlan, tests, fits, earlier-within}
+use Rattle.plans.proofs.Shaped.{fits-say}
 use Rattle.plans.specs.Pieces.{taskOf, pieceOf, costs}
 use Rattle.plans.specs.Shape.{sameTask, inOrder, isLast, pieceFits, shape}
 use Rattle.plans.specs.declared.Piece.{Piece}
 use Rattle.plans.specs.declared.Plan.{Plan}
-use Rattle.files.proofs.Good.{GoodTasks, GoodPlan, shape-says}
 
 module _ (m count n : ℕ) (ts us : ℕ → Task) (pc qc : ℕ → Piece) (same-task : (i : ℕ) → i < count → ts i ≡ us i) (same-piece : (j : ℕ) → j < n → pc j ≡ qc j) where
   order-same : (j : ℕ) → j < n → inOrder pc j ≡ inOrder qc j
@@ -46,49 +44,16 @@ module _ (m count n : ℕ) (ts us : ℕ → Task) (pc qc : ℕ → Piece) (same-
   pub shape-same : shape m count ts pc n ≡ true → shape m count us qc n ≡ true
   unfolding shape
   shape-same h =
-      let a : (leb 1 n && leb n 128 && all n (pieceFits m count ts pc n) ≡ true) × (eqb (pc (n - 1) .task .0 + 1) count ≡ true) = both h in
-      let b : (leb 1 n && leb n 128 ≡ true) × (all n (pieceFits m count ts pc n) ≡ true) = both (a .0) in
-      let some : 1 ≤ n = leb-true 1 n (both {b = leb n 128} (b .0) .0) in
-      both-make (both-make (b .0) (all-make n _ (λ j l. fits-same j l (all-each n _ (b .1) j l)))) (rw (← same-piece (n - 1) (omega arith)) (a .1))
+      let t : (leb 1 n ≡ true) × (leb n 128 ≡ true) × ((j : ℕ) → j < n → pieceFits m count ts pc n j ≡ true) × (eqb (pc (n - 1) .task .0 + 1) count ≡ true) = tests m count ts pc n h in
+      let some : 1 ≤ n = leb-true 1 n (t .0) in
+      both-make (both-make (both-make (t .0) (t .1)) (all-make n _ (λ j l. fits-same j l (t .2 j l)))) (rw (← same-piece (n - 1) (omega arith)) (t .3))
 
 -- tasks that agree up to their count are as good
-pub tasks-same : (m n : ℕ) (ts us : ℕ → Task) → ((i : ℕ) → i < n → ts i ≡ us i) → GoodTasks m n ts → GoodTasks m n us
-tasks-same m n ts us h g = record { cores = g .cores; count = g .count; values = λ i l. rw (← h i l) (g .values i l) }
-
--- a piece that is not its task's last has another of the task behind it
-goes-on : (pc : ℕ → Piece) (n j : ℕ) → isLast pc n j ≡ false → (suc j < n) × (pc j .task .0 ≡ pc (suc j) .task .0)
-unfolding isLast
-goes-on pc n j h =
-    let b : (ltb (suc j) n ≡ true) × (sameTask (pc j) (pc (suc j)) ≡ true) = both (not-false _ h) in
-    (ltb-true _ _ (b .0), eqb-true _ _ (b .1))
-
-costs-up : (pc : ℕ → Piece) (i j : ℕ) → costs pc i j ≤ costs pc i (suc j)
-unfolding costs
-costs-up pc i j = sum-up j (suc j) _ (omega arith)
-
-own-cost : (pc : ℕ → Piece) (j : ℕ) → pc j .cost ≤ costs pc (pc j .task .0) (suc j)
-unfolding costs sum
-own-cost pc j = rw (eq-eqb (pc j .task .0) (pc j .task .0) refl) (omega arith)
-
-module _ (m count n : ℕ) (ts : ℕ → Task) (pc : ℕ → Piece) (fits : (j : ℕ) → j < n → pieceFits m count ts pc n j ≡ true) where
-  -- the costs of a task's pieces so far are at most its cost
-  so-far-most : (k j : ℕ) → j + k ≡ n → j < n → costs pc (pc j .task .0) (suc j) ≤ ts (pc j .task .0) .cost
-  so-far-most zero j e l = absurd (omega arith)
-  so-far-most (suc k) j e l = go _ refl (so-far-most k (suc j) (omega arith))
-    where
-      go : (b : Bool) → isLast pc n j ≡ b → (suc j < n → costs pc (pc (suc j) .task .0) (suc (suc j)) ≤ ts (pc (suc j) .task .0) .cost) → costs pc (pc j .task .0) (suc j) ≤ ts (pc j .task .0) .cost
-      go true q ih = omega (arith, fits-say m count ts pc n j (fits j l) .full q)
-      go false q ih =
-          let g : (suc j < n) × (pc j .task .0 ≡ pc (suc j) .task .0) = goes-on pc n j q in
-          rw (g .1) (omega (arith, ih (g .0), costs-up pc (pc (suc j) .task .0) (suc j)))
-
-  pub cost-most : (j : ℕ) → j < n → pc j .cost ≤ ts (pc j .task .0) .cost
-  cost-most j l = omega (arith, own-cost pc j, so-far-most (n - j) j (omega arith) l)
+pub tasks-same : (m n : ℕ) (ts us : ℕ → Task) → ((i : ℕ) → i < n → ts i ≡ us i) → GoodTable m n ts → GoodTable m n us
+tasks-same m n ts us h g = record { cores = g .cores; tasks = g .tasks; values = λ i l. rw (← h i l) (g .values i l) }
 
 -- in a plan of good shape every cost fits four bytes
 pub costs-fit : (p : Plan) → GoodPlan p → (j : ℕ) → j < p .placed → pieceOf p j .cost < 4294967296
 costs-fit p g j l =
-    let z : Piece = pieceOf p j in
-    let s : (p .placed ≤ 128) × ((i : ℕ) → i < p .placed → pieceFits (p .cores) (p .count) (taskOf p) (pieceOf p) (p .placed) i ≡ true) = shape-says _ _ _ _ _ (g .shaped) in
-    let r : Ranges (taskOf p (z .task .0)) = values-say _ (g .tasks .values (z .task .0) (fits-say _ _ _ _ _ j (s .1 j l) .task)) in
-    omega (arith, cost-most (p .cores) (p .count) (p .placed) (taskOf p) (pieceOf p) (s .1) j l)
+    let r : Ranges (taskOf p (pieceOf p j .task .0)) = g .table .values (pieceOf p j .task .0) (fits _ _ _ _ _ (g .shaped) j l .task) in
+    omega (arith, earlier-within (p .cores) (p .count) (taskOf p) (pieceOf p) (p .placed) (g .shaped) j l)

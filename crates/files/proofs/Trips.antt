@@ -2,13 +2,12 @@
 use mathlib.Core.Path.{_≡_, refl, sym, ap, _∙_}
 use mathlib.Core.Bool.{Bool, true, false, cond}
 use mathlib.Core.List.{List, _++_}
-use Prim.Native.Nat.{ℕ, _≤_, _<_}
-use native.Mathlib.Decide.{decLe}
+use Prim.Native.Nat.{ℕ, _≤_}
 use native.Mathlib.Omega.{arith}
-use lib.Dec.{leb, eqb}
+use lib.Dec.{leb}
 use lib.ListN.{length, getD, take, drop}
 use lib.Seq.{take-at}
-use borrow.Author.Tests.{le-leb, eq-eqb}
+use borrow.Author.Tests.{eq-eqb}
 use Rattle.tasks.specs.Tables.{checkedTable}
 use Rattle.plans.specs.Shape.{checkedPlan}
 use Rattle.tasks.specs.declared.Answer.{Answer}
@@ -16,8 +15,8 @@ use Rattle.tasks.specs.declared.Answer.the-variants.{Accepted, Refused}
 use Rattle.tasks.specs.declared.Refusal.the-variants.{BufferShort}
 use Rattle.tasks.specs.declared.Table.{Table}
 use Rattle.plans.specs.declared.Plan.{Plan}
-use Rattle.files.specs.Fields.{coreField, tableBytes, planBytes}
-use Rattle.files.specs.Reading.{defaultCores, begun, read, tableClosed, tableRead, planClosed, planRead}
+use Rattle.files.specs.Fields.{tableBytes, planBytes}
+use Rattle.files.specs.Reading.{begun, read, tableClosed, tableRead, planClosed, planRead}
 use Rattle.files.specs.Writing.{answered, filled, tableWritten, tableFilled, planWritten, planFilled}
 use Rattle.files.specs.declared.ReadPlan.{ReadPlan}
 use Rattle.files.specs.declared.ReadTable.{ReadTable}

@@ -1,6 +1,6 @@
 -- Laws of writing: what a part from a place on holds after a field was written at its front, said of the whole buffer.
 use mathlib.Core.Path.{_≡_, refl, ap, sym, _∙_}
-use mathlib.Core.List.{List, [], _∷_, _++_, append-assoc, append-nil}
+use mathlib.Core.List.{List, [], _++_, append-assoc, append-nil}
 use Prim.Native.Nat.{ℕ, zero, suc, _+_, _-_, _*_, _≤_, _<_}
 use native.Mathlib.Nat.{zero-add, add-zero, mul-suc, mul-zero}
 use native.Mathlib.Numerals.{add-one}

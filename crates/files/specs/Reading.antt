@@ -11,7 +11,6 @@ use Rattle.tasks.specs.declared.Answer.the-variants.{Accepted, Refused}
 use Rattle.tasks.specs.declared.Place.{Place}
 use Rattle.tasks.specs.declared.Refusal.{Refusal}
 use Rattle.tasks.specs.declared.Refusal.the-variants.{CutShort, WrongTag, WrongLength, CoresAt, ValuesAt, TasksAt, NoPlanShape}
-use Rattle.tasks.specs.declared.Table.{Table}
 use Rattle.tasks.specs.declared.Task.{Task}
 use Rattle.plans.specs.Pieces.{noPiece}
 use Rattle.plans.specs.Shape.{checkedPlan}

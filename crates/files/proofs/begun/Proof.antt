@@ -1,11 +1,6 @@
-use borrow.Author.Tests.{eq-eqb, ne-eqb, le-leb, lt-leb, lt-ltb, le-ltb}
 use borrow.Author.Needs.{needs}
 use Rattle.files.proofs.begun.Statement.{statement}
 use Rattle.files.proofs.begun.Tie as tie
-use Rattle.files.proofs.begun.Reads as reads
-use Rattle.files.proofs.begun.Lts as lts
-use Rattle.files.proofs.Field.at.Reads as at-reads
-use Rattle.files.proofs.empty_plan.Reads as empty-plan-reads
 
 at-requires : tie.Need-at-requires
 at-requires c κs = search needs

@@ -1,13 +1,8 @@
 use Rattle.files.specs.Reading.{planClosed}
-use mathlib.Core.Path.{_≡_, refl, sym, ap, _∙_}
-use borrow.Author.Tests.{eq-eqb, ne-eqb, le-leb, lt-leb, lt-ltb, le-ltb}
+use mathlib.Core.Path.{sym, _∙_}
 use borrow.Author.Needs.{needs}
 use Rattle.files.proofs.close_plan.Statement.{statement}
 use Rattle.files.proofs.close_plan.Tie as tie
-use Rattle.files.proofs.close_plan.Reads as reads
-use Rattle.files.proofs.close_plan.Lts as lts
-use Rattle.files.proofs.empty_plan.Reads as empty-plan-reads
-use Rattle.files.proofs.plan_ended.Reads as plan-ended-reads
 
 plan-ended-requires : tie.Need-plan-ended-requires
 plan-ended-requires c κs = search needs

@@ -1,13 +1,8 @@
-use Rattle.files.specs.Reading.{tableClosed, tableAnswered}
-use mathlib.Core.Path.{_≡_, refl, sym, ap, _∙_}
-use borrow.Author.Tests.{eq-eqb, ne-eqb, le-leb, lt-leb, lt-ltb, le-ltb}
+use Rattle.files.specs.Reading.{tableClosed}
+use mathlib.Core.Path.{sym, _∙_}
 use borrow.Author.Needs.{needs}
 use Rattle.files.proofs.close_table.Statement.{statement}
 use Rattle.files.proofs.close_table.Tie as tie
-use Rattle.files.proofs.close_table.Reads as reads
-use Rattle.files.proofs.close_table.Lts as lts
-use Rattle.files.proofs.Field.ended.Reads as ended-reads
-use Rattle.files.proofs.no_tasks.Reads as no-tasks-reads
 
 ended-requires : tie.Need-ended-requires
 ended-requires c κs = search needs

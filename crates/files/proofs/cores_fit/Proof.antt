@@ -1,9 +1,6 @@
-use borrow.Author.Needs.{needs}
-use borrow.Author.Tests.{eq-eqb, ne-eqb, le-leb, lt-leb, lt-ltb, le-ltb}
+use borrow.Author.Tests.{le-leb, lt-leb}
 use Rattle.files.proofs.cores_fit.Statement.{statement}
 use Rattle.files.proofs.cores_fit.Tie as tie
-use Rattle.files.proofs.cores_fit.Reads as reads
-use Rattle.files.proofs.cores_fit.Lts as lts
 
 returns : tie.Need-returns
 returns c = simp (lt-leb _ _ (c .if1 .taken))

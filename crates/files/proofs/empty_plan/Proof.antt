@@ -1,10 +1,6 @@
-use borrow.Author.Tests.{eq-eqb, ne-eqb, le-leb, lt-leb, lt-ltb, le-ltb}
 use borrow.Author.Needs.{needs}
 use Rattle.files.proofs.empty_plan.Statement.{statement}
 use Rattle.files.proofs.empty_plan.Tie as tie
-use Rattle.files.proofs.empty_plan.Reads as reads
-use Rattle.files.proofs.empty_plan.Lts as lts
-use Rattle.files.proofs.no_tasks.Reads as no-tasks-reads
 
 no-tasks-requires : tie.Need-no-tasks-requires
 no-tasks-requires c κs = search needs

@@ -1,23 +1,13 @@
 use Rattle.files.proofs.Reading.{reader, read-refused, read-more, hold-answer, next-answer, good-room, read-end}
 use Rattle.files.specs.declared.Verdict.{Verdict}
-use Rattle.files.specs.declared.Reader.{Reader}
 use Rattle.tasks.specs.declared.Answer.the-variants.{Accepted}
 use lib.ListN.{length, drop}
 use Prim.Native.Nat.{_≤_, _-_, _+_}
 use Rattle.files.specs.Reading.{read, settled}
 use mathlib.Core.Path.{_≡_, refl, sym, ap, _∙_}
-use native.Mathlib.Omega.{arith}
 use borrow.Author.Needs.{needs}
-use borrow.Author.Tests.{eq-eqb, ne-eqb, le-leb, lt-leb, lt-ltb, le-ltb}
 use Rattle.files.proofs.feed.Statement.{statement}
 use Rattle.files.proofs.feed.Tie as tie
-use Rattle.files.proofs.feed.Reads as reads
-use Rattle.files.proofs.feed.Lts as lts
-use Rattle.files.proofs.Field.added.Reads as added-reads
-use Rattle.files.proofs.Field.hold.Reads as hold-reads
-use Rattle.files.proofs.Field.next.Reads as next-reads
-use Rattle.files.proofs.Field.refused.Reads as refused-reads
-use Rattle.files.proofs.Field.verdict.Reads as verdict-reads
 
 abbrev Inv-loop : tie.InvT-loop
 Inv-loop part f₀ plan₀ i₀ f plan i = (i ≤ length part) × ((f .answer ≡ Accepted) × (read (reader f plan) (drop i part) ≡ read (reader f₀ plan₀) part))

@@ -1,10 +1,8 @@
 use Rattle.files.specs.Reading.{further}
-use borrow.Author.Tests.{eq-eqb, ne-eqb, le-leb, lt-leb, lt-ltb, le-ltb}
+use borrow.Author.Tests.{le-leb, lt-leb}
 use borrow.Author.Needs.{needs}
 use Rattle.files.proofs.further.Statement.{statement}
 use Rattle.files.proofs.further.Tie as tie
-use Rattle.files.proofs.further.Reads as reads
-use Rattle.files.proofs.further.Lts as lts
 
 sub-if1 : tie.Need-sub-if1
 sub-if1 c = search needs

@@ -1,10 +1,7 @@
 use borrow.Author.Needs.{needs}
-use native.Mathlib.Omega.{arith}
-use borrow.Author.Tests.{eq-eqb, ne-eqb, le-leb, lt-leb, lt-ltb, le-ltb}
+use borrow.Author.Tests.{eq-eqb, ne-eqb}
 use Rattle.files.proofs.length_for.Statement.{statement}
 use Rattle.files.proofs.length_for.Tie as tie
-use Rattle.files.proofs.length_for.Reads as reads
-use Rattle.files.proofs.length_for.Lts as lts
 
 returns : tie.Need-returns
 returns c = simp (eq-eqb _ _ (c .if1 .taken)) (search needs)

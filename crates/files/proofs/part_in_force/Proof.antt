@@ -1,13 +1,7 @@
-use mathlib.Core.Path.{_≡_, refl, sym, ap, _∙_}
-use native.Mathlib.Omega.{arith}
-use borrow.Author.Tests.{eq-eqb, ne-eqb, le-leb, lt-leb, lt-ltb, le-ltb}
+use mathlib.Core.Path.{sym, _∙_}
 use borrow.Author.Needs.{needs}
 use Rattle.files.proofs.part_in_force.Statement.{statement}
 use Rattle.files.proofs.part_in_force.Tie as tie
-use Rattle.files.proofs.part_in_force.Reads as reads
-use Rattle.files.proofs.part_in_force.Lts as lts
-use Rattle.files.proofs.task_fields.Reads as task-fields-reads
-use Rattle.files.proofs.which_in_force.Reads as which-in-force-reads
 
 which-in-force-requires : tie.Need-which-in-force-requires
 which-in-force-requires c κs = search needs

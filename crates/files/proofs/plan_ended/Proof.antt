@@ -1,13 +1,8 @@
 use Rattle.files.specs.Reading.{planEnded}
-use mathlib.Core.Path.{_≡_, refl, sym, ap, _∙_}
-use borrow.Author.Tests.{eq-eqb, ne-eqb, le-leb, lt-leb, lt-ltb, le-ltb}
+use mathlib.Core.Path.{sym, _∙_}
 use borrow.Author.Needs.{needs}
 use Rattle.files.proofs.plan_ended.Statement.{statement}
 use Rattle.files.proofs.plan_ended.Tie as tie
-use Rattle.files.proofs.plan_ended.Reads as reads
-use Rattle.files.proofs.plan_ended.Lts as lts
-use Rattle.files.proofs.Field.ended.Reads as ended-reads
-use Rattle.plans.proofs.check_plan.Reads as check-plan-reads
 
 ended-requires : tie.Need-ended-requires
 ended-requires c κs = search needs

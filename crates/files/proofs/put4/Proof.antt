@@ -4,8 +4,6 @@ use lib.ListN.{length-set}
 use borrow.Author.Needs.{needs}
 use Rattle.files.proofs.put4.Statement.{statement}
 use Rattle.files.proofs.put4.Tie as tie
-use Rattle.files.proofs.put4.Reads as reads
-use Rattle.files.proofs.put4.Lts as lts
 
 -- src/lib.rt:45:15
 cast-out : tie.Need-cast-out

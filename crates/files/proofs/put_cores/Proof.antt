@@ -4,8 +4,6 @@ use native.Mathlib.Omega.{arith}
 use borrow.Author.Needs.{needs}
 use Rattle.files.proofs.put_cores.Statement.{statement}
 use Rattle.files.proofs.put_cores.Tie as tie
-use Rattle.files.proofs.put_cores.Reads as reads
-use Rattle.files.proofs.put_cores.Lts as lts
 
 slice-write-out : tie.Need-slice-write-out
 slice-write-out c = search needs

@@ -1,15 +1,11 @@
 use Rattle.files.specs.Fields.{pieceField}
 use lib.Seq.{length-sets}
-use mathlib.Core.Path.{_≡_, refl, sym, ap, _∙_}
+use mathlib.Core.Path.{ap, _∙_}
 use lib.ListN.{length-set, length}
 use native.Mathlib.Omega.{arith}
 use borrow.Author.Needs.{needs}
 use Rattle.files.proofs.put_piece.Statement.{statement}
 use Rattle.files.proofs.put_piece.Tie as tie
-use Rattle.files.proofs.put_piece.Reads as reads
-use Rattle.files.proofs.put_piece.Lts as lts
-use Rattle.files.proofs.kind_byte.Reads as kind-byte-reads
-use Rattle.files.proofs.put4.Reads as put4-reads
 
 slice-write-out : tie.Need-slice-write-out
 slice-write-out c = search needs

@@ -1,16 +1,13 @@
 use Rattle.files.proofs.Writing.{Rowed, row-none, row-more}
 use Rattle.files.specs.Fields.{pieceField}
 use Rattle.plans.specs.Pieces.{noPiece}
-use lib.ListN.{length, getD}
+use lib.ListN.{getD}
 use Prim.Native.Nat.{_≤_, _-_}
-use mathlib.Core.Path.{_≡_, refl, sym, ap, _∙_}
+use mathlib.Core.Path.{_≡_, refl}
 use native.Mathlib.Omega.{arith}
 use borrow.Author.Needs.{needs}
 use Rattle.files.proofs.put_pieces.Statement.{statement}
 use Rattle.files.proofs.put_pieces.Tie as tie
-use Rattle.files.proofs.put_pieces.Reads as reads
-use Rattle.files.proofs.put_pieces.Lts as lts
-use Rattle.files.proofs.put_piece.Reads as put-piece-reads
 
 abbrev Inv-loop : tie.InvT-loop
 Inv-loop out₀ start placed pieces at₀ j₀ out at j = (j ≤ placed) × Rowed 10 (λ n. pieceField (getD pieces n noPiece)) start out₀ out at j

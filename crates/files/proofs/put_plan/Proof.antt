@@ -1,15 +1,9 @@
-use Rattle.files.specs.Fields.{tableBytes, planBytes}
-use Rattle.files.proofs.Good.{GoodTasks, GoodPlan, tasks-good, plan-good, cores-most, count-most, shape-says}
-use Rattle.files.proofs.Writing.{write-refused, write-short, write-done, table-length, plan-length, plan-written}
-use mathlib.Core.Path.{_≡_, refl, sym, ap, _∙_}
+use Rattle.files.proofs.Writing.{plan-written}
+use mathlib.Core.Path.{_∙_}
 use native.Mathlib.Omega.{arith}
 use borrow.Author.Needs.{needs}
 use Rattle.files.proofs.put_plan.Statement.{statement}
 use Rattle.files.proofs.put_plan.Tie as tie
-use Rattle.files.proofs.put_plan.Reads as reads
-use Rattle.files.proofs.put_plan.Lts as lts
-use Rattle.files.proofs.put_pieces.Reads as put-pieces-reads
-use Rattle.files.proofs.put_table.Reads as put-table-reads
 
 put-table-requires : tie.Need-put-table-requires
 put-table-requires c κs = search needs

@@ -1,13 +1,9 @@
 use Rattle.files.proofs.Writing.{tasks-written}
-use mathlib.Core.Path.{_≡_, refl, sym, ap, _∙_}
+use mathlib.Core.Path.{_∙_}
 use native.Mathlib.Omega.{arith}
 use borrow.Author.Needs.{needs}
 use Rattle.files.proofs.put_table.Statement.{statement}
 use Rattle.files.proofs.put_table.Tie as tie
-use Rattle.files.proofs.put_table.Reads as reads
-use Rattle.files.proofs.put_table.Lts as lts
-use Rattle.files.proofs.put_cores.Reads as put-cores-reads
-use Rattle.files.proofs.put_tasks.Reads as put-tasks-reads
 
 cast-put-cores : tie.Need-cast-put-cores
 cast-put-cores c = search needs

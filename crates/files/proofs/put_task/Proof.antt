@@ -6,9 +6,6 @@ use Rattle.files.specs.Fields.{taskField}
 use borrow.Author.Needs.{needs}
 use Rattle.files.proofs.put_task.Statement.{statement}
 use Rattle.files.proofs.put_task.Tie as tie
-use Rattle.files.proofs.put_task.Reads as reads
-use Rattle.files.proofs.put_task.Lts as lts
-use Rattle.files.proofs.put4.Reads as put4-reads
 
 -- src/lib.rt:55:5
 slice-write-out : tie.Need-slice-write-out

@@ -1,16 +1,13 @@
 use Rattle.files.proofs.Writing.{Rowed, row-none, row-more}
 use Rattle.files.specs.Fields.{taskField}
 use Rattle.tasks.specs.Tables.{noTask}
-use lib.ListN.{length, getD}
+use lib.ListN.{getD}
 use Prim.Native.Nat.{_≤_, _-_}
-use mathlib.Core.Path.{_≡_, refl, sym, ap, _∙_}
+use mathlib.Core.Path.{_≡_, refl}
 use native.Mathlib.Omega.{arith}
 use borrow.Author.Needs.{needs}
 use Rattle.files.proofs.put_tasks.Statement.{statement}
 use Rattle.files.proofs.put_tasks.Tie as tie
-use Rattle.files.proofs.put_tasks.Reads as reads
-use Rattle.files.proofs.put_tasks.Lts as lts
-use Rattle.files.proofs.put_task.Reads as put-task-reads
 
 abbrev Inv-loop : tie.InvT-loop
 Inv-loop out₀ start count tasks at₀ i₀ out at i = (i ≤ count) × Rowed 15 (λ n. taskField (getD tasks n noTask)) start out₀ out at i

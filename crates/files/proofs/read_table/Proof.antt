@@ -1,13 +1,6 @@
 use Rattle.files.specs.Reading.{tableRead}
-use mathlib.Core.Path.{_≡_, refl, sym, ap, _∙_}
-use borrow.Author.Needs.{needs}
 use Rattle.files.proofs.read_table.Statement.{statement}
 use Rattle.files.proofs.read_table.Tie as tie
-use Rattle.files.proofs.read_table.Reads as reads
-use Rattle.files.proofs.read_table.Lts as lts
-use Rattle.files.proofs.close_table.Reads as close-table-reads
-use Rattle.files.proofs.feed.Reads as feed-reads
-use Rattle.files.proofs.start_table.Reads as start-table-reads
 
 start-table-requires : tie.Need-start-table-requires
 start-table-requires c κs = tt

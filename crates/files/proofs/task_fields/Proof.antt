@@ -1,10 +1,7 @@
-use native.Mathlib.Omega.{arith}
-use borrow.Author.Tests.{eq-eqb, ne-eqb, le-leb, lt-leb, lt-ltb, le-ltb}
+use borrow.Author.Tests.{eq-eqb, ne-eqb, le-leb, lt-leb}
 use borrow.Author.Needs.{needs}
 use Rattle.files.proofs.task_fields.Statement.{statement}
 use Rattle.files.proofs.task_fields.Tie as tie
-use Rattle.files.proofs.task_fields.Reads as reads
-use Rattle.files.proofs.task_fields.Lts as lts
 
 sub-result : tie.Need-sub-result
 sub-result c = search needs

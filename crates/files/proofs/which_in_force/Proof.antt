@@ -1,13 +1,8 @@
-use Rattle.files.specs.declared.ReadTable.{ReadTable}
 use Rattle.files.specs.InForce.{inForce}
-use mathlib.Core.Path.{_≡_, refl, sym, ap, _∙_}
-use borrow.Author.Tests.{eq-eqb, ne-eqb, le-leb, lt-leb, lt-ltb, le-ltb}
+use mathlib.Core.Path.{sym, ap, _∙_}
 use borrow.Author.Needs.{needs}
 use Rattle.files.proofs.which_in_force.Statement.{statement}
 use Rattle.files.proofs.which_in_force.Tie as tie
-use Rattle.files.proofs.which_in_force.Reads as reads
-use Rattle.files.proofs.which_in_force.Lts as lts
-use Rattle.files.proofs.read_table.Reads as read-table-reads
 
 read-table-requires : tie.Need-read-table-requires
 read-table-requires c κs = search needs

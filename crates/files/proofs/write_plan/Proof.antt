@@ -1,20 +1,11 @@
-use Prim.Native.Nat.{_≤_}
+use Rattle.files.proofs.Good.{plan-small}
 use Rattle.files.specs.Writing.{planWritten, planFilled}
-use Rattle.plans.specs.Shape.{checkedPlan}
-use Rattle.tasks.specs.declared.Answer.the-variants.{Accepted}
-use Rattle.files.specs.Fields.{tableBytes, planBytes}
-use Rattle.files.proofs.Good.{GoodTasks, GoodPlan, tasks-good, plan-good, cores-most, count-most, shape-says}
-use Rattle.files.proofs.Writing.{write-refused, write-short, write-done, table-length, plan-length, plan-written}
-use mathlib.Core.Path.{_≡_, refl, sym, ap, _∙_}
+use Rattle.files.proofs.Writing.{write-refused, write-short, write-done, plan-length}
+use mathlib.Core.Path.{sym, _∙_}
 use native.Mathlib.Omega.{arith}
-use borrow.Author.Tests.{eq-eqb, ne-eqb, le-leb, lt-leb, lt-ltb, le-ltb}
 use borrow.Author.Needs.{needs}
 use Rattle.files.proofs.write_plan.Statement.{statement}
 use Rattle.files.proofs.write_plan.Tie as tie
-use Rattle.files.proofs.write_plan.Reads as reads
-use Rattle.files.proofs.write_plan.Lts as lts
-use Rattle.files.proofs.put_plan.Reads as put-plan-reads
-use Rattle.plans.proofs.check_plan.Reads as check-plan-reads
 
 check-plan-requires : tie.Need-check-plan-requires
 check-plan-requires c κs = search needs
@@ -30,23 +21,23 @@ enum-told : tie.Need-enum-told
 enum-told c = search needs
 
 mul-length : tie.Need-mul-length
-mul-length c = let h : checkedPlan (c .before .before .before .before .before .args .plan) ≡ Accepted = sym (c .before .before .before .check-plan .ensures) ∙ c .before .enum-told .given .1 in let g : GoodPlan (c .before .before .before .before .before .args .plan) = plan-good _ h in let n = count-most _ _ _ (g .tasks) in let m = cores-most _ _ _ (g .tasks) in let k = shape-says _ _ _ _ _ (g .shaped) .0 in record { fits = omega arith }
+mul-length c = let g = plan-small (c .before .before .before .before .before .args .plan) _ (c .before .before .before .check-plan .ensures) (c .before .enum-told .given .1) in record { fits = omega arith }
 
 add-length : tie.Need-add-length
-add-length c = let h : checkedPlan (c .before .before .before .before .before .args .plan) ≡ Accepted = sym (c .before .before .before .check-plan .ensures) ∙ c .before .enum-told .given .1 in let g : GoodPlan (c .before .before .before .before .before .args .plan) = plan-good _ h in let n = count-most _ _ _ (g .tasks) in let m = cores-most _ _ _ (g .tasks) in let k = shape-says _ _ _ _ _ (g .shaped) .0 in record { fits = omega arith }
+add-length c = let g = plan-small (c .before .before .before .before .before .args .plan) _ (c .before .before .before .check-plan .ensures) (c .before .enum-told .given .1) in record { fits = omega arith }
 
 mul-length-2 : tie.Need-mul-length-2
-mul-length-2 c = let h : checkedPlan (c .before .before .before .before .before .before .args .plan) ≡ Accepted = sym (c .before .before .before .before .check-plan .ensures) ∙ c .before .before .enum-told .given .1 in let g : GoodPlan (c .before .before .before .before .before .before .args .plan) = plan-good _ h in let n = count-most _ _ _ (g .tasks) in let m = cores-most _ _ _ (g .tasks) in let k = shape-says _ _ _ _ _ (g .shaped) .0 in record { fits = omega arith }
+mul-length-2 c = let g = plan-small (c .before .before .before .before .before .before .args .plan) _ (c .before .before .before .before .check-plan .ensures) (c .before .before .enum-told .given .1) in record { fits = omega arith }
 
 add-length-2 : tie.Need-add-length-2
-add-length-2 c = let h : checkedPlan (c .before .before .before .before .before .before .args .plan) ≡ Accepted = sym (c .before .before .before .before .check-plan .ensures) ∙ c .before .before .enum-told .given .1 in let g : GoodPlan (c .before .before .before .before .before .before .args .plan) = plan-good _ h in let n = count-most _ _ _ (g .tasks) in let m = cores-most _ _ _ (g .tasks) in let k = shape-says _ _ _ _ _ (g .shaped) .0 in record { fits = omega arith }
+add-length-2 c = let g = plan-small (c .before .before .before .before .before .before .args .plan) _ (c .before .before .before .before .check-plan .ensures) (c .before .before .enum-told .given .1) in record { fits = omega arith }
 
 returns-2 : tie.Need-returns-2
 unfolding planWritten planFilled
 returns-2 c = write-short _ _ _ (sym (c .before .before .before .before .before .check-plan .ensures) ∙ c .before .before .before .enum-told .given .1) _ (plan-length (c .before .before .before .before .before .before .before .args .plan)) (c .if1 .taken)
 
 put-plan-requires : tie.Need-put-plan-requires
-put-plan-requires c κs = let h : checkedPlan (c .before .before .before .before .before .before .before .before .args .plan) ≡ Accepted = sym (c .before .before .before .before .before .before .check-plan .ensures) ∙ c .before .before .before .before .enum-told .given .1 in let g : GoodPlan (c .before .before .before .before .before .before .before .before .args .plan) = plan-good _ h in let n = count-most _ _ _ (g .tasks) in let m = cores-most _ _ _ (g .tasks) in let k = shape-says _ _ _ _ _ (g .shaped) .0 in (m .1, n .1, k, search needs)
+put-plan-requires c κs = let g = plan-small (c .before .before .before .before .before .before .before .before .args .plan) _ (c .before .before .before .before .before .before .check-plan .ensures) (c .before .before .before .before .enum-told .given .1) in (g .0, g .1, g .2, search needs)
 
 same-length : tie.Need-same-length
 same-length c = search needs

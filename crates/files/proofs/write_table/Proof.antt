@@ -1,20 +1,12 @@
-use Prim.Native.Nat.{_≤_}
+use Rattle.files.proofs.Good.{table-small}
 use Rattle.files.specs.Writing.{tableWritten, tableFilled}
-use Rattle.tasks.specs.Tables.{checkedTable, taskOf}
-use Rattle.tasks.specs.declared.Answer.the-variants.{Accepted}
-use Rattle.files.specs.Fields.{tableBytes, planBytes}
-use Rattle.files.proofs.Good.{GoodTasks, GoodPlan, tasks-good, plan-good, cores-most, count-most, shape-says}
-use Rattle.files.proofs.Writing.{write-refused, write-short, write-done, table-length, plan-length, plan-written}
-use mathlib.Core.Path.{_≡_, refl, sym, ap, _∙_}
+use Rattle.files.specs.Fields.{tableBytes}
+use Rattle.files.proofs.Writing.{write-refused, write-short, write-done, table-length}
+use mathlib.Core.Path.{sym, _∙_}
 use native.Mathlib.Omega.{arith}
-use borrow.Author.Tests.{eq-eqb, ne-eqb, le-leb, lt-leb, lt-ltb, le-ltb}
 use borrow.Author.Needs.{needs}
 use Rattle.files.proofs.write_table.Statement.{statement}
 use Rattle.files.proofs.write_table.Tie as tie
-use Rattle.files.proofs.write_table.Reads as reads
-use Rattle.files.proofs.write_table.Lts as lts
-use Rattle.files.proofs.put_table.Reads as put-table-reads
-use Rattle.tasks.proofs.check_table.Reads as check-table-reads
 
 check-table-requires : tie.Need-check-table-requires
 check-table-requires c κs = search needs
@@ -30,17 +22,17 @@ enum-told : tie.Need-enum-told
 enum-told c = search needs
 
 mul-length : tie.Need-mul-length
-mul-length c = let h : checkedTable (c .before .before .before .before .before .args .table) ≡ Accepted = sym (c .before .before .before .check-table .ensures) ∙ c .before .enum-told .given .1 in let g : GoodTasks (c .before .before .before .before .before .args .table .cores) (c .before .before .before .before .before .args .table .count) (taskOf (c .before .before .before .before .before .args .table)) = tasks-good _ _ _ h in let n = count-most _ _ _ g in let m = cores-most _ _ _ g in record { fits = omega arith }
+mul-length c = let g = table-small (c .before .before .before .before .before .args .table) _ (c .before .before .before .check-table .ensures) (c .before .enum-told .given .1) in record { fits = omega arith }
 
 add-length : tie.Need-add-length
-add-length c = let h : checkedTable (c .before .before .before .before .before .args .table) ≡ Accepted = sym (c .before .before .before .check-table .ensures) ∙ c .before .enum-told .given .1 in let g : GoodTasks (c .before .before .before .before .before .args .table .cores) (c .before .before .before .before .before .args .table .count) (taskOf (c .before .before .before .before .before .args .table)) = tasks-good _ _ _ h in let n = count-most _ _ _ g in let m = cores-most _ _ _ g in record { fits = omega arith }
+add-length c = let g = table-small (c .before .before .before .before .before .args .table) _ (c .before .before .before .check-table .ensures) (c .before .enum-told .given .1) in record { fits = omega arith }
 
 returns-2 : tie.Need-returns-2
 unfolding tableWritten tableFilled
 returns-2 c = write-short _ _ _ (sym (c .before .before .before .before .check-table .ensures) ∙ c .before .before .enum-told .given .1) _ (table-length (c .before .before .before .before .before .before .args .table)) (c .if1 .taken)
 
 put-table-requires : tie.Need-put-table-requires
-put-table-requires c κs = let h : checkedTable (c .before .before .before .before .before .before .before .before .args .table) ≡ Accepted = sym (c .before .before .before .before .before .before .check-table .ensures) ∙ c .before .before .before .before .enum-told .given .1 in let g : GoodTasks (c .before .before .before .before .before .before .before .before .args .table .cores) (c .before .before .before .before .before .before .before .before .args .table .count) (taskOf (c .before .before .before .before .before .before .before .before .args .table)) = tasks-good _ _ _ h in let n = count-most _ _ _ g in let m = cores-most _ _ _ g in (m .1, n .1, search needs)
+put-table-requires c κs = let g = table-small (c .before .before .before .before .before .before .before .before .args .table) _ (c .before .before .before .before .before .before .check-table .ensures) (c .before .before .before .before .enum-told .given .1) in (g .0, g .1, search needs)
 
 same-length : tie.Need-same-length
 same-length c = search needs

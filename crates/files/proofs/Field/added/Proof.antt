@@ -1,18 +1,11 @@
 use Rattle.files.proofs.Fields.{piece-room}
-use Prim.Native.Nat.{_<_}
-use Rattle.tasks.proofs.Bools.{both}
-use Rattle.files.specs.Reading.{added, pieceTaken}
+use Rattle.files.specs.Reading.{added}
 use native.Mathlib.Omega.{arith}
-use mathlib.Core.Path.{_≡_, refl, sym, ap, _∙_}
-use borrow.Author.Tests.{eq-eqb, ne-eqb, le-leb, lt-leb, lt-ltb, le-ltb, not-true, not-false, ltb-true}
+use mathlib.Core.Path.{sym, _∙_}
+use borrow.Author.Tests.{eq-eqb, ne-eqb, not-true, not-false}
 use borrow.Author.Needs.{needs}
 use Rattle.files.proofs.Field.added.Statement.{statement}
 use Rattle.files.proofs.Field.added.Tie as tie
-use Rattle.files.proofs.Field.added.Reads as reads
-use Rattle.files.proofs.Field.added.Lts as lts
-use Rattle.files.proofs.Field.piece.Reads as piece-reads
-use Rattle.files.proofs.Field.piece_taken.Reads as piece-taken-reads
-use Rattle.files.proofs.Field.task.Reads as task-reads
 
 element-copy-out-tag : tie.Need-element-copy-out-tag
 element-copy-out-tag c = search needs

@@ -1,11 +1,8 @@
 use Rattle.files.specs.Reading.{endedAfter}
-use mathlib.Core.Path.{_≡_, refl, sym, ap, _∙_}
-use borrow.Author.Tests.{eq-eqb, ne-eqb, le-leb, lt-leb, lt-ltb, le-ltb}
+use borrow.Author.Tests.{eq-eqb, ne-eqb, lt-ltb, le-ltb}
 use borrow.Author.Needs.{needs}
 use Rattle.files.proofs.Field.ended.Statement.{statement}
 use Rattle.files.proofs.Field.ended.Tie as tie
-use Rattle.files.proofs.Field.ended.Reads as reads
-use Rattle.files.proofs.Field.ended.Lts as lts
 
 enum-known-answer : tie.Need-enum-known-answer
 enum-known-answer c = search needs

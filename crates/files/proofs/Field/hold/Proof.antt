@@ -1,10 +1,8 @@
 use Rattle.files.specs.Reading.{hold}
-use borrow.Author.Tests.{eq-eqb, ne-eqb, le-leb, lt-leb, lt-ltb, le-ltb}
+use borrow.Author.Tests.{lt-ltb, le-ltb}
 use borrow.Author.Needs.{needs}
 use Rattle.files.proofs.Field.hold.Statement.{statement}
 use Rattle.files.proofs.Field.hold.Tie as tie
-use Rattle.files.proofs.Field.hold.Reads as reads
-use Rattle.files.proofs.Field.hold.Lts as lts
 
 returns : tie.Need-returns
 unfolding hold

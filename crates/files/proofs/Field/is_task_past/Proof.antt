@@ -1,9 +1,7 @@
-use borrow.Author.Tests.{eq-eqb, ne-eqb, le-leb, lt-leb, lt-ltb, le-ltb}
+use borrow.Author.Tests.{eq-eqb, ne-eqb}
 use borrow.Author.Needs.{needs}
 use Rattle.files.proofs.Field.is_task_past.Statement.{statement}
 use Rattle.files.proofs.Field.is_task_past.Tie as tie
-use Rattle.files.proofs.Field.is_task_past.Reads as reads
-use Rattle.files.proofs.Field.is_task_past.Lts as lts
 
 element-copy-out-if1 : tie.Need-element-copy-out-if1
 element-copy-out-if1 c = search needs

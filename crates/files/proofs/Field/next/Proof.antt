@@ -1,15 +1,9 @@
 use Rattle.files.specs.Reading.{nextField}
-use mathlib.Core.Path.{_≡_, refl, sym, ap, _∙_}
-use borrow.Author.Tests.{eq-eqb, ne-eqb, le-leb, lt-leb, lt-ltb, le-ltb}
+use mathlib.Core.Path.{sym}
+use borrow.Author.Tests.{eq-eqb, ne-eqb}
 use borrow.Author.Needs.{needs}
 use Rattle.files.proofs.Field.next.Statement.{statement}
 use Rattle.files.proofs.Field.next.Tie as tie
-use Rattle.files.proofs.Field.next.Reads as reads
-use Rattle.files.proofs.Field.next.Lts as lts
-use Rattle.files.proofs.Field.at.Reads as at-reads
-use Rattle.files.proofs.Field.piece_taken.Reads as piece-taken-reads
-use Rattle.files.proofs.further.Reads as further-reads
-use Rattle.files.proofs.length_for.Reads as length-for-reads
 
 element-copy-out-tag : tie.Need-element-copy-out-tag
 element-copy-out-tag c = search needs

@@ -1,10 +1,7 @@
-use borrow.Author.Tests.{eq-eqb, ne-eqb, le-leb, lt-leb, lt-ltb, le-ltb}
+use borrow.Author.Tests.{eq-eqb, ne-eqb}
 use borrow.Author.Needs.{needs}
 use Rattle.files.proofs.Field.piece.Statement.{statement}
 use Rattle.files.proofs.Field.piece.Tie as tie
-use Rattle.files.proofs.Field.piece.Reads as reads
-use Rattle.files.proofs.Field.piece.Lts as lts
-use Rattle.files.proofs.number4_at.Reads as number4-at-reads
 
 number4-at-requires : tie.Need-number4-at-requires
 number4-at-requires c κs = search needs

@@ -1,10 +1,8 @@
 use Rattle.files.specs.Reading.{pieceTaken}
-use borrow.Author.Tests.{eq-eqb, ne-eqb, le-leb, lt-leb, lt-ltb, le-ltb}
+use borrow.Author.Tests.{lt-ltb, le-ltb}
 use borrow.Author.Needs.{needs}
 use Rattle.files.proofs.Field.piece_taken.Statement.{statement}
 use Rattle.files.proofs.Field.piece_taken.Tie as tie
-use Rattle.files.proofs.Field.piece_taken.Reads as reads
-use Rattle.files.proofs.Field.piece_taken.Lts as lts
 
 element-copy-out-if1 : tie.Need-element-copy-out-if1
 element-copy-out-if1 c = search needs

@@ -1,10 +1,8 @@
 use Rattle.files.specs.Reading.{tagFits}
-use borrow.Author.Tests.{eq-eqb, ne-eqb, le-leb, lt-leb, lt-ltb, le-ltb}
+use borrow.Author.Tests.{eq-eqb, ne-eqb}
 use borrow.Author.Needs.{needs}
 use Rattle.files.proofs.Field.tag_fits.Statement.{statement}
 use Rattle.files.proofs.Field.tag_fits.Tie as tie
-use Rattle.files.proofs.Field.tag_fits.Reads as reads
-use Rattle.files.proofs.Field.tag_fits.Lts as lts
 
 element-copy-out-tag : tie.Need-element-copy-out-tag
 element-copy-out-tag c = search needs

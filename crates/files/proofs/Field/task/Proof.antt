@@ -1,9 +1,6 @@
 use borrow.Author.Needs.{needs}
 use Rattle.files.proofs.Field.task.Statement.{statement}
 use Rattle.files.proofs.Field.task.Tie as tie
-use Rattle.files.proofs.Field.task.Reads as reads
-use Rattle.files.proofs.Field.task.Lts as lts
-use Rattle.files.proofs.number4_at.Reads as number4-at-reads
 
 number4-at-requires : tie.Need-number4-at-requires
 number4-at-requires c κs = search needs

@@ -1,15 +1,10 @@
 use Rattle.tasks.specs.Tables.{valuesFit}
-use mathlib.Core.Path.{_≡_, refl, sym, ap, _∙_}
+use mathlib.Core.Path.{sym, ap, _∙_}
 use Rattle.files.specs.Reading.{values}
-use borrow.Author.Tests.{eq-eqb, ne-eqb, le-leb, lt-leb, lt-ltb, le-ltb}
+use borrow.Author.Tests.{eq-eqb, ne-eqb}
 use borrow.Author.Needs.{needs}
 use Rattle.files.proofs.Field.values.Statement.{statement}
 use Rattle.files.proofs.Field.values.Tie as tie
-use Rattle.files.proofs.Field.values.Reads as reads
-use Rattle.files.proofs.Field.values.Lts as lts
-use Rattle.files.proofs.Field.task.Reads as task-reads
-use Rattle.files.proofs.cores_fit.Reads as cores-fit-reads
-use Rattle.tasks.proofs.values_fit.Reads as values-fit-reads
 
 element-copy-out-tag : tie.Need-element-copy-out-tag
 element-copy-out-tag c = search needs

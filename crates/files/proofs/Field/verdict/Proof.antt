@@ -1,16 +1,9 @@
-use Rattle.files.specs.Reading.{verdict, lengthFor, tag}
-use mathlib.Core.Path.{_≡_, refl, sym, ap, _∙_}
-use borrow.Author.Tests.{eq-eqb, ne-eqb, le-leb, lt-leb, lt-ltb, le-ltb, not-true, not-false}
+use Rattle.files.specs.Reading.{verdict}
+use mathlib.Core.Path.{sym}
+use borrow.Author.Tests.{eq-eqb, ne-eqb, lt-ltb, le-ltb, not-true, not-false}
 use borrow.Author.Needs.{needs}
 use Rattle.files.proofs.Field.verdict.Statement.{statement}
 use Rattle.files.proofs.Field.verdict.Tie as tie
-use Rattle.files.proofs.Field.verdict.Reads as reads
-use Rattle.files.proofs.Field.verdict.Lts as lts
-use Rattle.files.proofs.Field.is_task_past.Reads as is-task-past-reads
-use Rattle.files.proofs.Field.tag_fits.Reads as tag-fits-reads
-use Rattle.files.proofs.Field.values.Reads as values-reads
-use Rattle.files.proofs.length_for.Reads as length-for-reads
-use Rattle.files.proofs.number2_at.Reads as number2-at-reads
 
 returns : tie.Need-returns
 unfolding verdict
