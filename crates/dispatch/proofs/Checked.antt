@@ -28,7 +28,7 @@ use Rattle.dispatch.specs.declared.State.{State}
 use Rattle.dispatch.specs.declared.Tasks.{Tasks}
 
 -- ---- accepted is neither refused first nor then
-accepted-not : {A : Type 0} {r : Refusal} → Refused r ≡ Accepted → A
+pub accepted-not : {A : Type 0} {r : Refusal} → Refused r ≡ Accepted → A
 accepted-not h = let z : _≡_ {A = ℕ} 0 1 = cc in absurd (omega arith)
 
 pub both-accepted : (a b : Answer) → andThen a b ≡ Accepted → (a ≡ Accepted) × (b ≡ Accepted)

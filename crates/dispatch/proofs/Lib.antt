@@ -6,3 +6,5 @@ pub mod Checked
 pub mod Sitting
 pub mod Highest
 pub mod Steps
+pub mod Kept
+pub mod Alone

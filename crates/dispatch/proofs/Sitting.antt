@@ -11,7 +11,7 @@ use Rattle.tasks.proofs.Bools.{clash, both, both-make}
 use Rattle.plans.specs.Pieces.{taskOf, pieceOf}
 use Rattle.plans.specs.Shape.{sameTask, isLast}
 use Rattle.plans.specs.declared.Plan.{Plan}
-use Rattle.dispatch.specs.Jobs.{byPhase, isActive}
+use Rattle.dispatch.specs.Jobs.{byPhase, isActive, onceReleased}
 use Rattle.dispatch.specs.Rules.{endedJob, finishedJob, turnsLate, markedJob, firstPiece, releasedJob, ranJob, agedJob}
 use Rattle.dispatch.specs.Sets.{member}
 use Rattle.dispatch.specs.WellMade.{ageFits, pieceExists, atNoPiece, jobWellMade}
@@ -117,3 +117,26 @@ module _ (p : Plan) (i : ℕ) where
   sits-placed o Never l k a r m = omega (arith, at-first l k r (both {a = eqb a 0} m .1))
   sits-placed o Active l k a r m = ltb-true k (p .placed) (both {a = ltb k (p .placed)} (both {b = ltb r (pieceOf p k .cost)} (both {a = leb a (taskOf p i .period)} m .1) .0) .0)
   sits-placed o Ended l k a r m = omega (arith, at-first l k r (both {a = leb a (taskOf p i .period)} m .1))
+
+-- ---- phases
+pub active-once : (h : Phase) → isActive h ≡ true → onceReleased h ≡ true
+active-once Never e = clash e refl
+active-once Active e = refl
+active-once Ended e = refl
+
+pub aged-phase : (p : Plan) (i : ℕ) (j : Job) → agedJob p i j .phase ≡ j .phase
+aged-phase p i j = go (onceReleased (j .phase))
+  where
+    go : (b : Bool) → cond b (job (j .phase) (j .late) (j .piece) (min (j .age + 1) (taskOf p i .period)) (j .ran)) j .phase ≡ j .phase
+    go true = refl
+    go false = refl
+
+-- a job that runs or not has been released if it was active
+pub stepped-once : (p : Plan) (n : Bool) (j : Job) → isActive (j .phase) ≡ true → onceReleased (cond n (ranJob p j) j .phase) ≡ true
+stepped-once p false j h = active-once (j .phase) h
+stepped-once p true j h = go (ltb (j .ran + 1) (pieceOf p (j .piece) .cost)) (isLast (pieceOf p) (p .placed) (j .piece))
+  where
+    go : (b d : Bool) → onceReleased (cond b (job (j .phase) (j .late) (j .piece) (j .age) (j .ran + 1)) (cond d (endedJob j) (job (j .phase) (j .late) (j .piece + 1) (j .age) 0)) .phase) ≡ true
+    go true d = active-once (j .phase) h
+    go false true = refl
+    go false false = active-once (j .phase) h

@@ -3,11 +3,12 @@ use mathlib.Core.Path.{_≡_, refl, sym, ap, _∙_}
 use mathlib.Core.Bool.{Bool, true, false, _||_, cond}
 use mathlib.Core.List.{List}
 use Prim.Native.Nat.{ℕ, suc, _+_, _≤_, _<_, min}
+use native.Mathlib.Decide.{decLt}
 use native.Mathlib.Nat.{min-eq-left, min-eq-right}
 use native.Mathlib.Numerals.{add-one}
 use native.Mathlib.Omega.{arith}
 use lib.Dec.{eqb}
-use lib.ListN.{getD, set}
+use lib.ListN.{length, getD, set, replicate, length-replicate, getD-replicate, List·getD-eq-default}
 use borrow.Author.Tests.{eq-eqb, ne-eqb}
 use Rattle.tasks.specs.Below.{any, first, count, tabulate, padded}
 use Rattle.tasks.proofs.Below.{count-more, any-more, any-make, first-holds, first-none}
@@ -28,6 +29,14 @@ or-one false h = sym h
 -- what a table has at i
 pub tabulated : {A : Type 0} (n : ℕ) (f : ℕ → A) (xs : List A) (i : ℕ) (d : A) → xs ≡ tabulate n f → i < n → f i ≡ getD xs i d
 tabulated n f xs i d e l = rw e (sym (tabulate-at n f i d l))
+
+-- one value everywhere
+pub replicate-at : {A : Type 0} (n i : ℕ) (v : A) → getD (replicate n v) i v ≡ v
+replicate-at n i v = go (decLt i n)
+  where
+    go : Dec (i < n) → getD (replicate n v) i v ≡ v
+    go (yes l) = getD-replicate n i v v l
+    go (no l) = let b : length (replicate n v) ≤ i = omega (arith, length-replicate n v) in List·getD-eq-default (replicate n v) v b
 
 pub padded-has : {A : Type 0} (size : ℕ) (empty : A) (n : ℕ) (f : ℕ → A) (xs : List A) (i : ℕ) → xs ≡ padded size n empty f → i < n → i < size → getD xs i empty ≡ f i
 padded-has size empty n f xs i e l b = rw e (padded-in size empty n f i l b)
