@@ -101,6 +101,10 @@ module _ (p : Plan) (s : State) (fs rs : Tasks) where
       go (Refused r) e = rw e (refused r e)
       go Accepted e = rw e (accepted e)
 
+  pub accepted-state : judged p s fs rs ≡ Accepted → tick p s fs rs .state ≡ nextState p fs rs s
+  unfolding tick
+  accepted-state e = rw e
+
   -- a refused tick changes nothing, and nothing runs
   pub refused-nothing : (r : Refusal) → tick p s fs rs .answer ≡ Refused r → (tick p s fs rs .state ≡ s) × (tick p s fs rs .runs ≡ replicate 16 noRun)
   refused-nothing r = by-judged (λ t. t .answer ≡ Refused r → (t .state ≡ s) × (t .runs ≡ replicate 16 noRun)) (λ k e h. (refl, refl)) (λ e h. accepted-not (sym h))

@@ -8,3 +8,4 @@ pub mod Highest
 pub mod Steps
 pub mod Kept
 pub mod Alone
+pub mod Forward
