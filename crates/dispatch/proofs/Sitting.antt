@@ -6,7 +6,6 @@ use native.Mathlib.Numerals.{add-one}
 use native.Mathlib.Omega.{arith}
 use lib.Dec.{leb, ltb, eqb}
 use borrow.Author.Tests.{leb-true, le-leb, ltb-true, lt-ltb, eqb-true, eq-eqb, not-false}
-use Rattle.tasks.proofs.Below.{first-holds}
 use Rattle.tasks.proofs.Bools.{clash, both, both-make}
 use Rattle.plans.specs.Pieces.{taskOf, pieceOf}
 use Rattle.plans.specs.Shape.{sameTask, isLast}
@@ -19,7 +18,7 @@ use Rattle.dispatch.specs.declared.Job.{Job}
 use Rattle.dispatch.specs.declared.Phase.{Phase}
 use Rattle.dispatch.specs.declared.Phase.the-variants.{Never, Active, Ended}
 use Rattle.dispatch.specs.declared.Tasks.{Tasks}
-use Rattle.dispatch.proofs.Checked.{Good, has-piece}
+use Rattle.dispatch.proofs.Checked.{Good}
 
 -- as in a well made state, but for the least age of a job
 abbrev pub sits : Plan → ℕ → Job → Bool
@@ -70,11 +69,11 @@ module _ (p : Plan) (i : ℕ) where
   unfolding firstPiece
   released-sits g l rs j m = go (member rs i)
     where
-      found : (firstPiece p i < p .placed) × (eqb (pieceOf p (firstPiece p i) .task .0) i ≡ true)
-      found = first-holds (p .placed) (λ k. eqb (pieceOf p k .task .0) i) (has-piece p g i l)
+      found : (firstPiece p i < p .placed) × (pieceOf p (firstPiece p i) .task .0 ≡ i)
+      found = g .begins i l
 
       go : (b : Bool) → sits p i (cond b (job Active false (firstPiece p i) 0 0) j) ≡ true
-      go true = both-make (le-leb 0 (taskOf p i .period) zero-le) (both-make (both-make (lt-ltb (firstPiece p i) (p .placed) (found .0)) (found .1)) (lt-ltb 0 (pieceOf p (firstPiece p i) .cost) (g .fits (firstPiece p i) (found .0) .cost)))
+      go true = both-make (le-leb 0 (taskOf p i .period) zero-le) (both-make (both-make (lt-ltb (firstPiece p i) (p .placed) (found .0)) (eq-eqb (pieceOf p (firstPiece p i) .task .0) i (found .1))) (lt-ltb 0 (pieceOf p (firstPiece p i) .cost) (g .fits (firstPiece p i) (found .0) .cost)))
       go false = m
 
   -- 4 and 5

@@ -23,7 +23,7 @@ use Rattle.dispatch.specs.declared.Runner.{Runner}
 use Rattle.dispatch.specs.declared.Runner.the-variants.{Idle, Runs}
 use Rattle.dispatch.specs.declared.State.{State}
 use Rattle.dispatch.specs.declared.Tasks.{Tasks}
-use Rattle.dispatch.proofs.Checked.{Good, period-some}
+use Rattle.dispatch.proofs.Checked.{Good}
 use Rattle.dispatch.proofs.Sitting.{sits, made-sits, finished-sits, marked-sits, released-sits, stepped-sits, aged-made, sits-placed}
 
 -- each of the plan's jobs sits
@@ -48,7 +48,7 @@ module _ (p : Plan) (g : Good p) where
   -- ---- what a rule does to the job of a task of the plan
   pub each-in : (f : ℕ → Job → Job) (s : State) (i : ℕ) → i < p .count → jobOf (eachJob p f s) i ≡ f i (jobOf s i)
   unfolding eachJob
-  each-in f s i l = padded-in 64 noJob (p .count) (λ k. f k (jobOf s k)) i l (omega (arith, g .count .1))
+  each-in f s i l = padded-in 64 noJob (p .count) (λ k. f k (jobOf s k)) i l (omega (arith, g .count))
 
   module _ (s : State) (i : ℕ) (l : i < p .count) where
     pub finish-in : (fs : Tasks) → jobOf (finish p fs s) i ≡ finishedJob fs i (jobOf s i)
@@ -77,7 +77,7 @@ module _ (p : Plan) (g : Good p) where
 
   pub run-last : (s : State) (x : ℕ) → x < p .cores → lastOf (run p s) x ≡ highest p s x (p .count)
   unfolding run
-  run-last s x l = ap (λ (c : CoreRun). c .runner) (padded-in 16 noRun (p .cores) (chosen p s) x l (omega (arith, g .cores .1)))
+  run-last s x l = ap (λ (c : CoreRun). c .runner) (padded-in 16 noRun (p .cores) (chosen p s) x l (omega (arith, g .cores)))
 
   pub run-past : (s : State) (x : ℕ) → p .cores ≤ x → lastOf (run p s) x ≡ Idle
   unfolding run
@@ -105,11 +105,11 @@ module _ (p : Plan) (g : Good p) where
 
   -- the ages make a well made state's jobs of them
   pub age-all : (s : State) → Sits p s → (i : ℕ) → i < p .count → jobWellMade p i (jobOf (age p s) i) ≡ true
-  age-all s h i l = let j : Job = jobOf s i in rw (age-in s i l) (aged-made p i (period-some (taskOf p i) (g .values i l)) (j .phase) (j .late) (j .piece) (j .age) (j .ran) (h i l))
+  age-all s h i l = let j : Job = jobOf s i in rw (age-in s i l) (aged-made p i (omega (arith, g .values i l .some, g .values i l .short, g .values i l .inside)) (j .phase) (j .late) (j .piece) (j .age) (j .ran) (h i l))
 
   -- ---- what the rules count on
   pub at-pieces : (s : State) → Sits p s → AtPieces p s
-  at-pieces s h i l = let j : Job = jobOf s i in sits-placed p i (g .placed .0) (j .phase) (j .late) (j .piece) (j .age) (j .ran) (h i l)
+  at-pieces s h i l = let j : Job = jobOf s i in sits-placed p i (g .some) (j .phase) (j .late) (j .piece) (j .age) (j .ran) (h i l)
 
   pub ready-pieces : (fs rs : Tasks) (s : State) → wellMade p s ≡ true → AtPieces p (release p rs (markLate p (finish p fs s)))
   ready-pieces fs rs s m = at-pieces (release p rs (markLate p (finish p fs s))) (release-all rs (markLate p (finish p fs s)) (mark-all (finish p fs s) (finish-all fs s (made-all s m))))
@@ -120,7 +120,7 @@ module _ (p : Plan) (g : Good p) where
     where
       go : (r : Runner) → byRunner r true (λ t. ltb t (p .count) && onceReleased (jobOf s t .phase) && not (any x (λ y. names t (lastOf s y)))) ≡ true → runningTask r < 64
       go Idle h = omega arith
-      go (Runs t) h = omega (arith, g .count .1, ltb-true (t .0) (p .count) (both {a = ltb (t .0) (p .count)} (both {b = not (any x (λ y. names (t .0) (lastOf s y)))} h .0) .0))
+      go (Runs t) h = omega (arith, g .count, ltb-true (t .0) (p .count) (both {a = ltb (t .0) (p .count)} (both {b = not (any x (λ y. names (t .0) (lastOf s y)))} h .0) .0))
 
   pub finish-tasks : (fs : Tasks) (s : State) → wellMade p s ≡ true → RanTasks p (finish p fs s)
   finish-tasks fs s m x l = rw (finish-last p fs s) (ran-tasks s m x l)

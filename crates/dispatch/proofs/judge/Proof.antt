@@ -15,7 +15,7 @@ well-made-requires : tie.Need-well-made-requires
 well-made-requires c κs = search needs
 
 judge-sets-requires : tie.Need-judge-sets-requires
-judge-sets-requires c κs = let g = good (c .before .before .before .before .before .args .plan) (sym (c .before .before .before .before .check-plan .ensures) ∙ c .before .before .enum-told .given .1) in (g .cores .1, g .count .1)
+judge-sets-requires c κs = let g = good (c .before .before .before .before .before .args .plan) (sym (c .before .before .before .before .check-plan .ensures) ∙ c .before .before .enum-told .given .1) in (g .cores, g .count)
 
 enum-told-2 : tie.Need-enum-told-2
 enum-told-2 c = search needs

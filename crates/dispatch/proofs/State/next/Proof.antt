@@ -5,22 +5,22 @@ use Rattle.dispatch.proofs.State.next.Statement.{statement}
 use Rattle.dispatch.proofs.State.next.Tie as tie
 
 finish-requires : tie.Need-finish-requires
-finish-requires c κs = good (c .args .plan) (c .pre .0) .count .1
+finish-requires c κs = good (c .args .plan) (c .pre .0) .count
 
 mark-late-requires : tie.Need-mark-late-requires
-mark-late-requires c κs = good (c .before .args .plan) (c .before .pre .0) .count .1
+mark-late-requires c κs = good (c .before .args .plan) (c .before .pre .0) .count
 
 release-requires : tie.Need-release-requires
-release-requires c κs = let g = good (c .before .before .args .plan) (c .before .before .pre .0) in (g .count .1, g .placed .1)
+release-requires c κs = let g = good (c .before .before .args .plan) (c .before .before .pre .0) in (g .count, g .placed)
 
 run-requires : tie.Need-run-requires
 run-requires c κs = let s = c .before .before .before in let g = good (c .before .before .before .args .plan) (c .before .before .before .pre .0) in (sound (s .args .plan) g, rw (c .release .ensures, c .before .mark-late .ensures, c .before .before .finish .ensures) (ready-pieces (s .args .plan) g (s .args .finished) (s .args .released) (s .args .self) (s .pre .1)))
 
 count-preempted-requires : tie.Need-count-preempted-requires
-count-preempted-requires c κs = let s = c .before .before .before .before in let g = good (c .before .before .before .before .args .plan) (c .before .before .before .before .pre .0) in (g .cores .1, rw (c .before .before .before .finish .ensures) (finish-tasks (s .args .plan) g (s .args .finished) (s .args .self) (s .pre .1)))
+count-preempted-requires c κs = let s = c .before .before .before .before in let g = good (c .before .before .before .before .args .plan) (c .before .before .before .before .pre .0) in (g .cores, rw (c .before .before .before .finish .ensures) (finish-tasks (s .args .plan) g (s .args .finished) (s .args .self) (s .pre .1)))
 
 age-requires : tie.Need-age-requires
-age-requires c κs = good (c .before .before .before .before .before .args .plan) (c .before .before .before .before .before .pre .0) .count .1
+age-requires c κs = good (c .before .before .before .before .before .args .plan) (c .before .before .before .before .before .pre .0) .count
 
 returns : tie.Need-returns
 unfolding nextState
