@@ -1,15 +1,14 @@
 -- No answer names a task on two cores.
-use mathlib.Core.Path.{_≡_, refl, sym, ap, _∙_}
+use mathlib.Core.Path.{_≡_, sym, ap, _∙_}
 use mathlib.Core.Bool.{true}
-use mathlib.Core.List.{List}
 use Prim.Native.Nat.{ℕ, _<_}
 use native.Mathlib.Decide.{decLt}
 use native.Mathlib.Omega.{arith}
 use lib.ListN.{getD}
-use Rattle.tasks.specs.declared.Answer.the-variants.{Accepted, Refused}
+use Rattle.tasks.specs.declared.Answer.the-variants.{Accepted}
 use Rattle.tasks.proofs.Bools.{clash}
 use Rattle.plans.specs.declared.Plan.{Plan}
-use Rattle.dispatch.specs.Jobs.{freshState, noRun, lastOf, names}
+use Rattle.dispatch.specs.Jobs.{noRun, lastOf, names}
 use Rattle.dispatch.specs.Refusing.{judged}
 use Rattle.dispatch.specs.Tick.{nextState, tick}
 use Rattle.dispatch.specs.declared.Runner.{Runner}

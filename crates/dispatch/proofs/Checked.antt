@@ -15,7 +15,7 @@ use Rattle.tasks.specs.declared.Refusal.the-variants.{NotWellMade}
 use Rattle.tasks.proofs.Bools.{both}
 use Rattle.tasks.proofs.Tables.{Ranges}
 use Rattle.plans.specs.Pieces.{taskOf, pieceOf}
-use Rattle.plans.specs.Shape.{isShare, follows, inOrder, checkedPlan}
+use Rattle.plans.specs.Shape.{isShare, inOrder, checkedPlan}
 use Rattle.plans.specs.declared.Plan.{Plan}
 use Rattle.plans.proofs.InShape as shape
 use Rattle.plans.proofs.InShape.{GoodPlan, accepted-plan}

@@ -14,8 +14,7 @@ use Rattle.plans.specs.Pieces.{taskOf, pieceOf}
 use Rattle.plans.specs.Shape.{isLast}
 use Rattle.plans.specs.declared.Plan.{Plan}
 use Rattle.dispatch.specs.Jobs.{jobOf, isActive, onceReleased, names}
-use Rattle.dispatch.specs.Refusing.{judged}
-use Rattle.dispatch.specs.Rules.{endedJob, finishedJob, finish, turnsLate, markedJob, markLate, releasedJob, release, runsNow, ranJob, agedJob}
+use Rattle.dispatch.specs.Rules.{endedJob, finishedJob, finish, turnsLate, markedJob, markLate, releasedJob, runsNow, ranJob, agedJob}
 use Rattle.dispatch.specs.Sets.{member}
 use Rattle.dispatch.specs.Tick.{nextState, tick}
 use Rattle.dispatch.specs.WellMade.{wellMade}
@@ -25,10 +24,10 @@ use Rattle.dispatch.specs.declared.Phase.the-variants.{Never, Active, En
 use Rattle.dispatch.specs.declared.State.{State}
 use Rattle.dispatch.specs.declared.Tasks.{Tasks}
 use Rattle.dispatch.proofs.Alone.{runOf, Named, named}
-use Rattle.dispatch.proofs.Checked.{Good, good, Taken, taken, cores-rise}
+use Rattle.dispatch.proofs.Checked.{Good, good, taken, cores-rise}
 use Rattle.dispatch.proofs.Kept.{ready, next-job, by-judged, accepted-state}
-use Rattle.dispatch.proofs.Sitting.{sits, aged-phase}
-use Rattle.dispatch.proofs.Steps.{Sits, finish-in, mark-in, release-in, made-all, finish-all, mark-all, release-all}
+use Rattle.dispatch.proofs.Sitting.{sits}
+use Rattle.dispatch.proofs.Steps.{finish-in, mark-in, release-in, made-all, finish-all, mark-all, release-all}
 
 -- ---- one job: if it is active after a rule that does not release it, it was active before and its piece was no later
 abbrev Before : Job → Job → Type 0

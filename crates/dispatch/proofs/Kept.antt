@@ -1,20 +1,18 @@
 -- A tick from a well made state ends in a well made state; an accepted one leaves 0 or none past the plan's counts, and a refused one changes nothing.
 use mathlib.Core.Path.{_≡_, refl, sym, ap, _∙_}
-use mathlib.Core.Bool.{Bool, true, false, not, _&&_, cond}
+use mathlib.Core.Bool.{true, false, not, _&&_, cond}
 use mathlib.Core.Logic.{_⊎_, inl, inr}
 use Prim.Native.Nat.{ℕ, _≤_, _<_}
 use native.Mathlib.Omega.{arith}
 use lib.Dec.{ltb}
 use lib.ListN.{replicate}
 use borrow.Author.Tests.{lt-ltb, eq-eqb}
-use Rattle.tasks.specs.Below.{all, any}
+use Rattle.tasks.specs.Below.{any}
 use Rattle.tasks.specs.declared.Answer.{Answer}
 use Rattle.tasks.specs.declared.Answer.the-variants.{Accepted, Refused}
 use Rattle.tasks.specs.declared.Refusal.{Refusal}
 use Rattle.tasks.proofs.Below.{all-make, any-none}
-use Rattle.tasks.proofs.Bools.{clash, either, both, both-make}
-use Rattle.plans.specs.Shape.{isLast, checkedPlan}
-use Rattle.plans.specs.Pieces.{pieceOf}
+use Rattle.tasks.proofs.Bools.{either, both, both-make}
 use Rattle.plans.specs.declared.Plan.{Plan}
 use Rattle.dispatch.specs.Jobs.{noJob, noRun, freshState, jobOf, lastOf, byRunner, isActive, onceReleased, names, CleanState}
 use Rattle.dispatch.specs.Refusing.{judged}
@@ -22,9 +20,6 @@ use Rattle.dispatch.specs.Rules.{eachJob, finish, markLate, release, sta
 use Rattle.dispatch.specs.Tick.{nextState, answered, tick}
 use Rattle.dispatch.specs.WellMade.{jobWellMade, coreWellMade, wellMade}
 use Rattle.dispatch.specs.declared.CoreRun.{CoreRun}
-use Rattle.dispatch.specs.declared.Job.{Job}
-use Rattle.dispatch.specs.declared.Phase.{Phase}
-use Rattle.dispatch.specs.declared.Phase.the-variants.{Never, Active, Ended}
 use Rattle.dispatch.specs.declared.Runner.{Runner}
 use Rattle.dispatch.specs.declared.Runner.the-variants.{Idle, Runs}
 use Rattle.dispatch.specs.declared.State.{State}
@@ -34,7 +29,7 @@ use Rattle.dispatch.proofs.Checked.{accepted-not, Good, good, Taken, ta
 use Rattle.dispatch.proofs.Highest.{runner-stands, runs-once}
 use Rattle.dispatch.proofs.Sitting.{aged-phase, stepped-once}
 use Rattle.dispatch.proofs.Walks.{replicate-at}
-use Rattle.dispatch.proofs.Steps.{Sits, each-out, run-in, age-in, count-in, run-last, run-past, made-all, finish-all, mark-all, release-all, run-all, count-all, age-all}
+use Rattle.dispatch.proofs.Steps.{each-out, run-in, age-in, count-in, run-last, run-past, made-all, finish-all, mark-all, release-all, run-all, count-all, age-all}
 
 -- the jobs when the runners are chosen
 abbrev pub ready : Plan → Tasks → Tasks → State → State

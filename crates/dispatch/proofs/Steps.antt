@@ -1,24 +1,21 @@
 -- The rules from state to state: what each does to a job, and that each keeps the jobs as they sit.
-use mathlib.Core.Path.{_≡_, refl, sym, ap, _∙_}
-use mathlib.Core.Bool.{Bool, true, false, not, _&&_, cond}
+use mathlib.Core.Path.{_≡_, refl, ap}
+use mathlib.Core.Bool.{true, not, _&&_, cond}
 use Prim.Native.Nat.{ℕ, _≤_, _<_}
 use native.Mathlib.Omega.{arith}
 use lib.Dec.{ltb}
 use borrow.Author.Tests.{ltb-true}
 use Rattle.tasks.specs.Below.{all, any}
 use Rattle.tasks.proofs.Below.{all-each}
-use Rattle.tasks.proofs.Bools.{clash, either, both}
+use Rattle.tasks.proofs.Bools.{both}
 use Rattle.tasks.proofs.Padded.{padded-in, padded-out}
-use Rattle.plans.specs.Pieces.{taskOf}
 use Rattle.plans.specs.declared.Plan.{Plan}
-use Rattle.dispatch.specs.Jobs.{noJob, noRun, jobOf, lastOf, byRunner, runningTask, isActive, onceReleased, names}
+use Rattle.dispatch.specs.Jobs.{noJob, noRun, jobOf, lastOf, byRunner, runningTask, onceReleased, names}
 use Rattle.dispatch.specs.Rules.{eachJob, finishedJob, finish, markedJob, markLate, releasedJob, release, pieceAt, highest, chosen, runsNow, ranJob, run, countPreempted, agedJob, age}
 use Rattle.dispatch.specs.Sound.{AtPieces, RanTasks}
 use Rattle.dispatch.specs.WellMade.{jobWellMade, coreWellMade, wellMade}
 use Rattle.dispatch.specs.declared.CoreRun.{CoreRun}
 use Rattle.dispatch.specs.declared.Job.{Job}
-use Rattle.dispatch.specs.declared.Phase.{Phase}
-use Rattle.dispatch.specs.declared.Phase.the-variants.{Never, Active, Ended}
 use Rattle.dispatch.specs.declared.Runner.{Runner}
 use Rattle.dispatch.specs.declared.Runner.the-variants.{Idle, Runs}
 use Rattle.dispatch.specs.declared.State.{State}

@@ -1,5 +1,5 @@
 -- Tables over the tasks that a walk fills: the members of a set, the tasks that ran, and the first piece of each task.
-use mathlib.Core.Path.{_≡_, refl, sym, ap, _∙_}
+use mathlib.Core.Path.{_≡_, refl, sym, _∙_}
 use mathlib.Core.Bool.{Bool, true, false, _||_, cond}
 use mathlib.Core.List.{List}
 use Prim.Native.Nat.{ℕ, suc, _+_, _≤_, _<_, min}
@@ -11,9 +11,9 @@ use lib.Dec.{eqb}
 use lib.ListN.{length, getD, set, replicate, length-replicate, getD-replicate, List·getD-eq-default}
 use borrow.Author.Tests.{eq-eqb, ne-eqb}
 use Rattle.tasks.specs.Below.{any, first, count, tabulate, padded}
-use Rattle.tasks.proofs.Below.{count-more, any-more, any-make, first-holds, first-none}
+use Rattle.tasks.proofs.Below.{count-more, any-more, first-holds, first-none}
 use Rattle.tasks.proofs.Padded.{tabulate-at, padded-in}
-use Rattle.tasks.proofs.Tabulate.{tabulate-same, tabulate-turn}
+use Rattle.tasks.proofs.Tabulate.{tabulate-turn}
 use Rattle.dispatch.specs.Jobs.{byRunner, runningTask, names}
 use Rattle.dispatch.specs.declared.Runner.{Runner}
 use Rattle.dispatch.specs.declared.Runner.the-variants.{Idle, Runs}

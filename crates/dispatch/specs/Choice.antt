@@ -1,5 +1,5 @@
 -- How the choice of runners walks over the jobs: where each job stands, and the best found so far on a core.
-use mathlib.Core.Bool.{Bool, true, false}
+use mathlib.Core.Bool.{false}
 use Prim.Native.Nat.{ℕ}
 use Rattle.plans.specs.Pieces.{noPiece, taskOf, pieceOf}
 use Rattle.plans.specs.Shape.{isLast}
