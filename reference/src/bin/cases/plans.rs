@@ -139,7 +139,7 @@ fn crooked(rng: &mut Rng) -> Vec<u8> {
     fields.extend(piece_fields(&plan.pieces));
     let i = first + rng.index(plan.pieces.len());
     let cost = plan.pieces[i - first].cost;
-    match rng.index(14) {
+    match rng.index(15) {
         0 => fields[i].body[0] = rng.pick(&[tasks as u8, tasks as u8 + 1, 255]),
         1 => fields[i].body[0] = rng.index(tasks) as u8,
         2 => fields[i].body[1] = rng.pick(&[cores as u8, cores as u8 + 1, 255]),
@@ -160,7 +160,8 @@ fn crooked(rng: &mut Rng) -> Vec<u8> {
         }
         10 => fields.truncate(first),
         11 => return wrapped_sum(rng),
-        12 => {
+        12 => fields.retain(|field| field.tag != 2),
+        13 => {
             let mut next = fields[i].clone();
             next.body[1] = next.body[1].wrapping_add(1);
             set_cost(&mut next, rng.pick(&[0, 1, cost]));
@@ -217,7 +218,7 @@ fn many_pieces(rng: &mut Rng) -> Vec<u8> {
         tasks: vec![task; count],
     };
     let mut fields = table_fields(rng, &table);
-    let total = rng.pick(&[126, 127, 128, 129, 130, 190]);
+    let total = rng.pick(&[127, 128, 128, 129, 129, 190]);
     let mut made = 0;
     for number in 0..count {
         let room: usize = total.max(made) - made;

@@ -3,7 +3,9 @@
 use crate::fields::{bytes, cores_field, damaged, noise, piece_field, table_fields, task_field};
 use crate::rng::Rng;
 use reference::planner::layout;
-use reference::records::{Kind, Table, Task, LONGEST_PERIOD, MOST_CORES, MOST_TASKS};
+use reference::records::{
+    CoreNo, Kind, Piece, Table, Task, LONGEST_PERIOD, MOST_CORES, MOST_TASKS,
+};
 
 /// An input of the lister.
 pub fn input(rng: &mut Rng) -> Vec<u8> {
@@ -109,20 +111,62 @@ pub fn heavy_table(rng: &mut Rng, short: bool) -> Table {
     Table { cores, tasks }
 }
 
-/// A full or a heavy table; one that is planned with shares if some try finds it.
-pub fn near_limit(rng: &mut Rng) -> Table {
-    let tries = rng.pick(&[1, 10, 30]);
+/// Deadlines well below the periods, so that shares too have little time left.
+fn pressed_table(rng: &mut Rng) -> Table {
+    let cores = core_count(rng);
+    let count = rng.within(cores as u32, 4 * cores as u32 + 2) as usize;
+    let most = rng.pick(&[20, 60, 200]);
+    let tasks = (0..count.min(MOST_TASKS))
+        .map(|_| {
+            let period = rng.within(most / 10, most);
+            let deadline = rng.within(period.div_ceil(4), period);
+            let cost = rng.within(deadline.div_ceil(4), deadline - deadline / 5);
+            Task {
+                cost,
+                deadline,
+                period,
+            }
+        })
+        .collect();
+    Table { cores, tasks }
+}
+
+/// How many shares stand on a core with another share.
+fn meetings(table: &Table) -> usize {
+    let Ok(plan) = layout(table) else {
+        return 0;
+    };
+    let shares_on = |core| {
+        let on_it = |q: &&Piece| q.kind == Kind::Share && q.core == CoreNo(core);
+        plan.pieces.iter().filter(on_it).count()
+    };
+    (0..table.cores)
+        .map(shares_on)
+        .filter(|&count| count > 1)
+        .sum()
+}
+
+/// Whether a table is planned with a share.
+fn is_shared(table: &Table) -> bool {
+    layout(table).is_ok_and(|plan| plan.pieces.iter().any(|q| q.kind == Kind::Share))
+}
+
+/// A table near its limit: any, or one in which tasks are shared, or in which shares meet.
+fn near_limit(rng: &mut Rng) -> Table {
+    let wanted: fn(&Table) -> bool = rng.pick(&[|_| true, is_shared, |table| meetings(table) > 0]);
     let mut table = full_table(rng);
-    for _ in 0..tries {
-        if layout(&table).is_ok_and(|plan| plan.pieces.iter().any(|q| q.kind == Kind::Share)) {
+    for _ in 0..50 {
+        table = match rng.index(4) {
+            0 => full_table(rng),
+            1 => pressed_table(rng),
+            _ => {
+                let short = rng.one_in(3);
+                heavy_table(rng, short)
+            }
+        };
+        if wanted(&table) {
             break;
         }
-        let short = rng.one_in(3);
-        table = if rng.one_in(2) {
-            heavy_table(rng, short)
-        } else {
-            full_table(rng)
-        };
     }
     table
 }
@@ -189,6 +233,10 @@ fn edge_file(rng: &mut Rng) -> Vec<u8> {
             edge_task(rng)
         };
         fields.push(task_field(numbers));
+    }
+    if count > 0 && rng.one_in(4) {
+        let last = fields.len() - 1;
+        fields[last].length = rng.pick(&[0, 7, 13, 0x010c]);
     }
     bytes(&fields)
 }
