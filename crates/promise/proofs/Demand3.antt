@@ -13,6 +13,7 @@ use Rattle.plans.specs.Certificate.{Certified}
 use Rattle.plans.specs.Pieces.{taskOf, pieceOf}
 use Rattle.plans.specs.Shape.{checkedPlan}
 use Rattle.plans.specs.declared.Plan.{Plan}
+use Rattle.layout.proofs.Certified.{planned-cores, planned-count, planned-tasks, planned-shape, planned-certified}
 use Rattle.layout.specs.Layout.{planned}
 use Rattle.dispatch.specs.Jobs.{freshState}
 use Rattle.promise.specs.Certificate.{Certificate, Timely}
@@ -20,7 +21,6 @@ use Rattle.promise.specs.Demand3.{Demand3, PlanOf}
 use Rattle.promise.specs.Requests.{after}
 use Rattle.promise.specs.View.{modelOf}
 use Rattle.promise.proofs.Cores.{one-core, cores-rise}
-use Rattle.promise.proofs.Planned.{Placed, planned-placed}
 use Rattle.promise.proofs.Runs.{after-append, due-over, none-late}
 use Rattle.promise.proofs.Sound.{piece-fits, within-cost}
 
@@ -48,4 +48,4 @@ module _ (p : Plan) (good : checkedPlan p ≡ Accepted) where
 
 -- For every table for which the planner answers with a plan: it is a plan of that table, and no job is late.
 pub no-job-is-late : (t : Table) → planned t .answer ≡ Accepted → PlanOf t (planned t .plan) × Demand3 (planned t .plan)
-no-job-is-late t h = let p : Placed t (planned t .plan) = planned-placed t h in (p .plan, demand-3 (planned t .plan) (p .good) (p .certified))
+no-job-is-late t h = (record { cores = planned-cores t h; count = planned-count t h; tasks = planned-tasks t h }, demand-3 (planned t .plan) (planned-shape t h) (planned-certified t h))

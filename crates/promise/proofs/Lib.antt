@@ -12,6 +12,5 @@ pub mod Since
 pub mod Runs
 pub mod Certificate
 pub mod Cores
-pub mod Planned
 pub mod Demand3
 mod Examples
