@@ -123,9 +123,17 @@ table-told p e = rw e (rw append-nil)
 
 -- ---- a whole file
 
+-- a file that was read without a refusal so far
+reading : (o : Bool) (s : List ℕ) → Slice s → read (begun o) s .field .answer ≡ Accepted → Held o s (read (begun o) s .field) (read (begun o) s .plan)
+reading o s lent a = read-held o s [] (fieldAt o 0 0 false) (emptyPlan defaultCores) (begun-held o) (omega arith) (lent .small) (omega (arith, lent .most)) a
+
+-- the place that is told of a field is where its first byte stands
+pub place-is : (o : Bool) (s : List ℕ) → Slice s → read (begun o) s .field .answer ≡ Accepted → read (begun o) s .field .place + read (begun o) s .field .count ≡ length s
+place-is o s lent a = reading o s lent a .whole
+
 module _ (o : Bool) (s : List ℕ) (lent : Slice s) (e : Ended (read (begun o) s .field) (read (begun o) s .plan .count)) where
   held : Held o s (read (begun o) s .field) (read (begun o) s .plan)
-  held = read-held o s [] (fieldAt o 0 0 false) (emptyPlan defaultCores) (begun-held o) (omega arith) (lent .small) (omega (arith, lent .most)) (e .answer)
+  held = reading o s lent (e .answer)
 
   module _ (m : read (begun o) s .field .misshapen ≡ false) where
     content : Content o (held .named) s (read (begun o) s .field) (read (begun o) s .plan)

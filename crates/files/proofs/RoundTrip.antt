@@ -15,7 +15,7 @@ use Rattle.tasks.specs.Tables.{taskOf as taskOfTable}
 use Rattle.tasks.specs.declared.Answer.the-variants.{Accepted}
 use Rattle.tasks.specs.declared.Task.{Task}
 use Rattle.tasks.specs.declared.Table.{Table}
-use Rattle.plans.specs.Pieces.{noPiece, taskOf, pieceOf}
+use Rattle.plans.specs.Pieces.{noPiece, taskOf, pieceOf, SamePlan, CleanPlan}
 use Rattle.plans.proofs.InShape.{GoodPlan, accepted-plan, tests}
 use Rattle.plans.specs.Shape.{checkedPlan}
 use Rattle.plans.specs.declared.Piece.{Piece}
@@ -134,3 +134,12 @@ plan-reads-back p h =
     ∙ ap (λ (r : Reader). read r (row (p .placed) (λ j. pieceField (pieceOf p j)))) tasks
     ∙ read-pieces (p .cores) (p .count) (taskOf p) (pieceOf p) (n .1) (p .placed) k (costs-fit p g))
     ∙ plan-closes _ _ refl refl refl (n .0) (plan-accepted (cleanPlan p) (clean-good p g))
+
+pub clean-plan-same : (p : Plan) → p .count ≤ 64 → p .placed ≤ 128 → SamePlan p (cleanPlan p)
+clean-plan-same p h k = record { cores = refl; count = refl; tasks = λ i l. sym (padded-in 64 noTask (p .count) (taskOf p) i l (omega arith)); placed = refl; pieces = λ j l. sym (padded-in 128 noPiece (p .placed) (pieceOf p) j l (omega arith)) }
+
+pub clean-plan-is : (p : Plan) → CleanPlan p → length (p .tasks) ≡ 64 → length (p .pieces) ≡ 128 → cleanPlan p ≡ p
+clean-plan-is p k e f =
+    let ts : p .tasks ≡ padded 64 (p .count) noTask (taskOf p) = padded-is 64 noTask (p .count) (taskOf p) (p .tasks) e (λ i l b. refl) (λ i l b. k .tasks i l) in
+    let pc : p .pieces ≡ padded 128 (p .placed) noPiece (pieceOf p) = padded-is 128 noPiece (p .placed) (pieceOf p) (p .pieces) f (λ j l b. refl) (λ j l b. k .pieces j l) in
+    ap (λ (xs : List Task). record { cores = p .cores; count = p .count; tasks = xs; placed = p .placed; pieces = padded 128 (p .placed) noPiece (pieceOf p) }) (sym ts) ∙ ap (λ (xs : List Piece). record { cores = p .cores; count = p .count; tasks = p .tasks; placed = p .placed; pieces = xs }) (sym pc)

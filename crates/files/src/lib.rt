@@ -1,17 +1,17 @@
 // The reader and the writer of table and plan files, and the table in force.
-ghost use mathlib.Core.Path.{_≡_};
 ghost use mathlib.Core.Bool.{true, false, _&&_};
+ghost use mathlib.Core.List.{_++_};
+ghost use mathlib.Core.Path.{_≡_};
+ghost use Prim.Native.Nat.{_+_, _*_, _≤_, _<_};
 ghost use lib.Dec.{leb, eqb};
 ghost use lib.ListN.{length, getD, drop, replicate};
 ghost use lib.Seq.{sets};
-ghost use mathlib.Core.List.{_++_};
-ghost use Rattle.plans.specs.Pieces.{noPiece};
-ghost use Prim.Native.Nat.{_+_, _*_, _≤_, _<_};
 ghost use Rattle.files.specs.Fields.{number2, number4, bytes4, kindByte, coreField, taskField, pieceField, row, tasksBytes, planBytes};
-ghost use Rattle.files.specs.Writing.{after, tableWritten, tableFilled, planWritten, planFilled};
-ghost use Rattle.files.specs.Reading.{tag, lengthFor, fieldAt, tagFits, taskIn, pieceIn, values, verdict, hold, further, pieceTaken, nextField, added, refusedField, endedAfter, emptyPlan, begun, read, tableClosed, tableRead, planEnded, planClosed, planRead};
-ghost use Rattle.tasks.specs.Tables.{coresFit, noTask};
 ghost use Rattle.files.specs.InForce.{inForce, TaskFields, IsInForce};
+ghost use Rattle.files.specs.Reading.{tag, lengthFor, fieldAt, tagFits, taskIn, pieceIn, values, verdict, hold, further, pieceTaken, nextField, added, refusedField, endedAfter, emptyPlan, begun, read, tableClosed, tableRead, planEnded, planClosed, planRead};
+ghost use Rattle.files.specs.Writing.{after, tableWritten, tableFilled, planWritten, planFilled};
+ghost use Rattle.plans.specs.Pieces.{noPiece};
+ghost use Rattle.tasks.specs.Tables.{coresFit, noTask};
 use plans::Kind;
 use plans::Piece;
 use plans::Plan;
@@ -109,6 +109,16 @@ fn length_for(tag: u8) -> usize
         return 12;
     }
     7
+}
+
+// The place `n` bytes further on.
+fn further(p: usize, n: usize) -> usize
+    ensures { λ r. ⌜ r ≡ further p n ⌝ }
+{
+    if p <= 18446744073709551615 - n {
+        return p + n;
+    }
+    18446744073709551615
 }
 
 // Cores m: 1 to 16.
@@ -224,7 +234,7 @@ impl Field {
         Verdict::Good
     }
 
-    // Is this a task after `tasks` tasks, and so many are as many as may be?
+    // Is this a task, after so many that no more may come?
     fn is_task_past(self, tasks: usize) -> bool
         ensures { λ r. ⌜ r ≡ (eqb (tag self) 2 && leb 64 tasks) ⌝ }
     {
@@ -458,6 +468,13 @@ pub fn close_table(reader: Reader) -> ReadTable
     }
 }
 
+// Reads a table file: any bytes at all.
+pub fn read_table(bytes: &[u8]) -> ReadTable
+    ensures { λ r. ⌜ r ≡ tableRead (now (bytes .entry)) ⌝ }
+{
+    close_table(feed(start_table(), bytes))
+}
+
 // What the end of a plan file is answered with: 1, 6 or, last, 8.
 fn plan_ended(f: Field, plan: Plan) -> Answer
     ensures { λ r. ⌜ r ≡ planEnded f plan ⌝ }
@@ -496,23 +513,6 @@ pub fn read_plan(bytes: &[u8]) -> ReadPlan
     ensures { λ r. ⌜ r ≡ planRead (now (bytes .entry)) ⌝ }
 {
     close_plan(feed(start_plan(), bytes))
-}
-
-// Reads a table file: any bytes at all.
-pub fn read_table(bytes: &[u8]) -> ReadTable
-    ensures { λ r. ⌜ r ≡ tableRead (now (bytes .entry)) ⌝ }
-{
-    close_table(feed(start_table(), bytes))
-}
-
-// The place `n` bytes further on.
-fn further(p: usize, n: usize) -> usize
-    ensures { λ r. ⌜ r ≡ further p n ⌝ }
-{
-    if p <= 18446744073709551615 - n {
-        return p + n;
-    }
-    18446744073709551615
 }
 
 // Writes the four bytes of a number from `at` on.
