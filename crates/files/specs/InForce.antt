@@ -18,6 +18,7 @@ choice Accepted shipped = Own
 choice (Refused x) Accepted = Shipped
 choice (Refused x) (Refused y) = Neither y
 
+-- which slice is in force or, if both are bad, the refusal of the shipped one
 unfoldable pub inForce : List ℕ → List ℕ → InForce
 inForce own shipped = choice (tableRead own .answer) (tableRead shipped .answer)
 

@@ -32,9 +32,11 @@ use Rattle.files.specs.declared.Verdict.the-variants.{Waits, Bad, Good}
 abbrev pub defaultCores : ℕ
 defaultCores = 4
 
+-- the first byte
 abbrev pub tag : Field → ℕ
 tag f = getD (f .bytes) 0 0
 
+-- what a refusal of the field tells
 abbrev pub placeOf : Field → Place
 placeOf f = record { 0 = f .place }
 
@@ -53,6 +55,7 @@ tagFits f =
 abbrev pub taskIn : Field → Task
 taskIn f = record { cost = number4 (f .bytes) 3; deadline = number4 (f .bytes) 7; period = number4 (f .bytes) 11 }
 
+-- kind: 0 whole, 1 share
 abbrev pub kindOf : ℕ → Kind
 kindOf b = cond (eqb b 1) Share Whole
 
@@ -103,12 +106,15 @@ nextField f placed =
     let p : ℕ = further (f .place) (3 + lengthFor (tag f)) in
     cond (eqb (tag f) 3) (fieldAt (f .pieces) p (f .end) (cond (pieceTaken f placed) (f .misshapen) true)) (fieldAt (f .pieces) p p (f .misshapen))
 
+-- with this core count
 abbrev pub withCores : Plan → ℕ → Plan
 withCores p m = record { cores = m; count = p .count; tasks = p .tasks; placed = p .placed; pieces = p .pieces }
 
+-- with one task more
 abbrev pub withTask : Plan → Task → Plan
 withTask p t = record { cores = p .cores; count = p .count + 1; tasks = set (p .tasks) (p .count) t; placed = p .placed; pieces = p .pieces }
 
+-- with one piece more
 abbrev pub withPiece : Plan → Piece → Plan
 withPiece p z = record { cores = p .cores; count = p .count; tasks = p .tasks; placed = p .placed + 1; pieces = set (p .pieces) (p .placed) z }
 
@@ -121,6 +127,7 @@ added f p =
 
 -- ---- a file
 
+-- the field, refused
 abbrev pub refusedField : Field → Refusal → Field
 refusedField f x = record { pieces = f .pieces; answer = Refused x; place = f .place; end = f .end; misshapen = f .misshapen; count = f .count; bytes = f .bytes }
 
@@ -138,6 +145,7 @@ stepped Accepted f p b = settled (verdict (hold f b) (p .count)) (hold f b) p
 unfoldable pub step : Reader → ℕ → Reader
 step r b = stepped (r .field .answer) (r .field) (r .plan) b
 
+-- byte after byte
 unfoldable pub read : Reader → List ℕ → Reader
 read r [] = r
 read r (b ∷ bs) = read (step r b) bs
@@ -170,6 +178,7 @@ abbrev pub planAnswered : Answer → Plan → ReadPlan
 planAnswered Accepted p = record { answer = Accepted; plan = p }
 planAnswered (Refused x) p = record { answer = Refused x; plan = emptyPlan 0 }
 
+-- the answer for a table file that ends here, and for a plan file
 unfoldable pub tableClosed : Reader → ReadTable
 tableClosed r = tableAnswered (endedAfter (r .field) (r .plan .count)) (r .plan)
 

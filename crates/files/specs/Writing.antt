@@ -29,12 +29,14 @@ abbrev pub filled : Answer → List ℕ → List ℕ → List ℕ
 filled (Refused x) file buffer = buffer
 filled Accepted file buffer = cond (leb (length file) (length buffer)) (file ++ drop (length file) buffer) buffer
 
+-- the answer for a table, and the buffer after it
 unfoldable pub tableWritten : Table → List ℕ → Written
 tableWritten t buffer = answered (checkedTable t) (tableBytes t) buffer
 
 unfoldable pub tableFilled : Table → List ℕ → List ℕ
 tableFilled t buffer = filled (checkedTable t) (tableBytes t) buffer
 
+-- the answer for a plan, and the buffer after it
 unfoldable pub planWritten : Plan → List ℕ → Written
 planWritten p buffer = answered (checkedPlan p) (planBytes p) buffer
 
