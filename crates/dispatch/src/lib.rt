@@ -1,10 +1,10 @@
-// The vocabulary of the dispatcher: jobs, what runs on a core, the state, sets of tasks, and what a tick answers.
-ghost use mathlib.Core.Bool.{Bool, true, false, not, _&&_, cond};
+// The dispatcher: jobs, what runs on a core, the state, sets of tasks, and one tick.
+ghost use mathlib.Core.Bool.{true, false, _&&_, cond};
 ghost use mathlib.Core.List.{List};
 ghost use mathlib.Core.Path.{_≡_};
 ghost use lib.Dec.{ltb, eqb};
 ghost use lib.ListN.{length, getD};
-ghost use Prim.Native.Nat.{ℕ, suc, _+_, _≤_, _<_, min};
+ghost use Prim.Native.Nat.{ℕ, _+_, _≤_, _<_, min};
 ghost use Rattle.tasks.specs.Below.{all, any, first, tabulate, padded};
 ghost use Rattle.tasks.specs.Tables.{andThen};
 ghost use Rattle.tasks.specs.declared.Answer.the-variants.{Accepted};
@@ -14,7 +14,7 @@ ghost use Rattle.plans.specs.Shape.{isLast, checkedPlan};
 ghost use Rattle.dispatch.specs.Choice.{noStand, standOf, bestOf};
 ghost use Rattle.dispatch.specs.Jobs.{freshState, runningTask, noJob, noRun, jobOf, lastOf, byRunner, isActive, onceReleased, names as named};
 ghost use Rattle.dispatch.specs.Refusing.{notRun, tooSoon, stillActive, lowest, judgedSets, judged};
-ghost use Rattle.dispatch.specs.Rules.{total as totalled, endedJob, finishedJob, finish, turnsLate, markedJob, markLate, firstPiece, releasedJob, release, agedJob, age as aged, beats as beaten, highest, chosen, runsNow, ranJob, run, preempted as pushed, countPreempted};
+ghost use Rattle.dispatch.specs.Rules.{total as totalled, endedJob, finishedJob, finish, turnsLate, markedJob, markLate, firstPiece, releasedJob, release, agedJob, age as aged, beats as beaten, highest, chosen, ranJob, run, preempted as pushed, countPreempted};
 ghost use Rattle.dispatch.specs.Sets.{member};
 ghost use Rattle.dispatch.specs.Sound.{Sound, AtPieces, RanTasks};
 ghost use Rattle.dispatch.specs.Tick.{nextState, tick as ticked};
@@ -74,404 +74,309 @@ pub struct Ticked {
     pub state: State,
 }
 
-// Where a job stands: whether it is active, its piece, whether that is its task's last, and its task's deadline.
-struct Stand {
-    active: bool,
-    last: bool,
-    piece: Piece,
-    deadline: u32,
-}
-
-// The best found so far on a core, and where its job stands.
-struct Best {
-    runner: Runner,
-    stand: Stand,
-}
-
-fn is_active(phase: Phase) -> bool
-    ensures { λ r. ⌜ r ≡ isActive phase ⌝ }
+// ---- What the board calls: a fresh state, the check of a state, one tick.
+// A fresh state has nothing released and zeros.
+pub fn fresh() -> State
+    ensures { λ r. ⌜ r ≡ freshState ⌝ }
 {
-    match phase {
-        Phase::Never => false,
-        Phase::Active => true,
-        Phase::Ended => false,
+    let job = no_job();
+    let run = no_run();
+    let jobs = [job; 64];
+    let last = [run; 16];
+    State {
+        jobs,
+        last,
+        late: 0,
+        preemptions: 0,
     }
 }
 
-fn once_released(phase: Phase) -> bool
-    ensures { λ r. ⌜ r ≡ onceReleased phase ⌝ }
+// Is the state well made? Any plan and any state may be given.
+pub fn well_made(plan: Plan, state: State) -> bool
+    ensures { λ r. ⌜ r ≡ wellMade plan state ⌝ }
 {
-    match phase {
-        Phase::Never => false,
-        Phase::Active => true,
-        Phase::Ended => true,
-    }
+    jobs_well_made(plan, state) & cores_well_made(plan, state)
 }
 
-// The task that runs, or 0 where nothing does.
-fn task_of(runner: Runner) -> usize
-    ensures { λ r. ⌜ (r ≡ runningTask runner) × (r < 256) ⌝ }
+// One tick, for any plan, any state and any two sets: the rules in their order, or a refusal.
+pub fn tick(plan: Plan, state: State, finished: Tasks, released: Tasks) -> Ticked
+    ensures { λ r. ⌜ r ≡ ticked plan state finished released ⌝ }
 {
-    match runner {
-        Runner::Idle => 0,
-        Runner::Runs(task) => task.index(),
-    }
-}
-
-// Does a task run?
-fn is_running(runner: Runner) -> bool
-    ensures { λ r. ⌜ r ≡ byRunner runner false (λ t. true) ⌝ }
-{
-    match runner {
-        Runner::Idle => false,
-        Runner::Runs(_) => true,
-    }
-}
-
-fn no_job() -> Job
-    ensures { λ r. ⌜ r ≡ noJob ⌝ }
-{
-    Job {
-        phase: Phase::Never,
-        late: false,
-        piece: 0,
-        age: 0,
-        ran: 0,
-    }
-}
-
-fn no_run() -> CoreRun
-    ensures { λ r. ⌜ r ≡ noRun ⌝ }
-{
-    CoreRun {
-        runner: Runner::Idle,
-    }
-}
-
-// A total with k more, which stops at 4,294,967,295.
-fn total(base: u32, k: u32) -> u32
-    ensures { λ r. ⌜ r ≡ totalled base k ⌝ }
-{
-    if k < 4294967295 - base {
-        base + k
-    } else {
-        4294967295
-    }
-}
-
-fn one_if(counts: bool) -> u32
-    ensures { λ r. ⌜ (r ≡ cond counts 1 0) × (r ≤ 1) ⌝ }
-{
-    if counts { 1 } else { 0 }
-}
-
-fn ended_job(job: Job) -> Job
-    ensures { λ r. ⌜ r ≡ endedJob job ⌝ }
-{
-    Job {
-        phase: Phase::Ended,
-        late: false,
-        piece: 0,
-        age: job.age,
-        ran: 0,
-    }
-}
-
-// Rule 1 for one job, whose task is among the finished ones or not.
-fn finished_job(job: Job, finished: bool) -> Job
-    ensures { λ r. ⌜ ((fs : Tasks) (i : ℕ) → member fs i ≡ finished → r ≡ finishedJob fs i job) ⌝ }
-{
-    let phase = job.phase;
-    if finished & is_active(phase) {
-        ended_job(job)
-    } else {
-        job
-    }
-}
-
-// Rule 2 for one job.
-fn turns_late(task: Task, job: Job) -> bool
-    ensures { λ r. ⌜ ((p : Plan) (i : ℕ) → taskOf p i ≡ task → r ≡ turnsLate p i job) ⌝ }
-{
-    let phase = job.phase;
-    is_active(phase) & (job.age == task.deadline) & !job.late
-}
-
-fn marked_job(job: Job, late: bool) -> Job
-    ensures { λ r. ⌜ ((p : Plan) (i : ℕ) → turnsLate p i job ≡ late → r ≡ markedJob p i job) ⌝ }
-{
-    if late {
-        let phase = job.phase;
-        Job {
-            phase,
-            late,
-            piece: job.piece,
-            age: job.age,
-            ran: job.ran,
-        }
-    } else {
-        job
-    }
-}
-
-// Rule 3 for one job, whose task is among the released ones or not.
-fn released_job(job: Job, released: bool, first: u8) -> Job
-    ensures { λ r. ⌜ ((p : Plan) (rs : Tasks) (i : ℕ) → member rs i ≡ released → firstPiece p i ≡ first → r ≡ releasedJob p rs i job) ⌝ }
-{
-    if released {
-        Job {
-            phase: Phase::Active,
-            late: false,
-            piece: first,
-            age: 0,
-            ran: 0,
-        }
-    } else {
-        job
-    }
-}
-
-// Rule 6 for one job.
-fn aged_job(task: Task, job: Job) -> Job
-    ensures { λ r. ⌜ ((p : Plan) (i : ℕ) → taskOf p i ≡ task → r ≡ agedJob p i job) ⌝ }
-{
-    let phase = job.phase;
-    if once_released(phase) {
-        Job {
-            phase,
-            late: job.late,
-            piece: job.piece,
-            age: older(job.age, task.period),
-            ran: job.ran,
-        }
-    } else {
-        job
-    }
-}
-
-// An age one tick on, up to the period.
-fn older(age: u32, period: u32) -> u32
-    ensures { λ r. ⌜ r ≡ min (age + 1) period ⌝ }
-{
-    if age < period { age + 1 } else { period }
-}
-
-// Is it this task that runs?
-fn names(task: usize, runner: Runner) -> bool
-    ensures { λ r. ⌜ r ≡ named task runner ⌝ }
-{
-    match runner {
-        Runner::Idle => false,
-        Runner::Runs(t) => t.index() == task,
-    }
-}
-
-fn no_piece() -> Piece
-    ensures { λ r. ⌜ r ≡ noPiece ⌝ }
-{
-    Piece {
-        task: TaskNo(0),
-        core: CoreNo(0),
-        kind: Kind::Whole,
-        cost: 0,
-    }
-}
-
-fn no_stand() -> Stand
-    ensures { λ r. ⌜ r ≡ noStand ⌝ }
-{
-    let piece = no_piece();
-    Stand {
-        active: false,
-        last: false,
-        piece,
-        deadline: 0,
-    }
-}
-
-// A job's piece as a place in the plan's list.
-fn place_of(job: Job) -> usize
-    ensures { λ r. ⌜ (r ≡ job .piece) × (r < 256) ⌝ }
-{
-    job.piece as usize
-}
-
-// Is the piece at j, of the first `placed`, its task's last, `next` being the one after it?
-fn is_last(placed: usize, j: usize, piece: Piece, next: Piece) -> bool
-    requires { ⌜ j < 256 ⌝ }
-    ensures { λ r. ⌜ ((pc : ℕ → Piece) → pc j ≡ piece → (j + 1 < placed → pc (j + 1) ≡ next) → r ≡ isLast pc placed j) ⌝ }
-{
-    if j + 1 < placed {
-        piece.task.index() != next.task.index()
-    } else {
-        true
-    }
-}
-
-// Is the piece of the one on the core of the other's and ranked above it?
-fn is_above(a: Stand, b: Stand) -> bool
-    ensures { λ r. ⌜ ((ts : ℕ → Task) → ts (a .piece .task .0) .deadline ≡ a .deadline → ts (b .piece .task .0) .deadline ≡ b .deadline → r ≡ above ts (a .piece) (b .piece)) ⌝ }
-{
-    let a_piece = a.piece;
-    let b_piece = b.piece;
-    (a_piece.core.index() == b_piece.core.index())
-        & plans::outranks(a_piece, a.deadline, b_piece, b.deadline)
-}
-
-// Is the job's piece ranked above that of the best found so far?
-fn beats(stand: Stand, best: Best) -> bool
-    ensures { λ r. ⌜ ((p : Plan) (s : State) (x k i : ℕ) → stand ≡ standOf p s i → best ≡ bestOf p s x k → r ≡ beaten p s i (highest p s x k)) ⌝ }
-{
-    let runner = best.runner;
-    let held = best.stand;
-    match runner {
-        Runner::Idle => true,
-        Runner::Runs(_) => is_above(stand, held),
-    }
-}
-
-// The best on a core, one more job being looked at.
-fn better(best: Best, stand: Stand, task: u8, core: usize) -> Best
-    ensures { λ r. ⌜ ((p : Plan) (s : State) → stand ≡ standOf p s task → best ≡ bestOf p s core task → r ≡ bestOf p s core (task + 1)) ⌝ }
-{
-    let place = stand.piece.core;
-    let here = stand.active & (place.index() == core);
-    if here & beats(stand, best) {
-        let runner = Runner::Runs(TaskNo(task));
-        Best { runner, stand }
-    } else {
-        best
-    }
-}
-
-// The highest ranked job on a core: one walk over the tasks.
-fn highest_on(stands: [Stand; 64], count: usize, core: usize) -> CoreRun
-    requires { ⌜ count ≤ 64 ⌝ }
-    ensures { λ r. ⌜ ((p : Plan) (s : State) → p .count ≡ count → stands ≡ padded 64 count noStand (standOf p s) → r ≡ chosen p s core) ⌝ }
-{
-    let runner = Runner::Idle;
-    let stand = no_stand();
-    let mut best = Best { runner, stand };
-    let mut i = 0;
-    while i < count {
-        best = better(best, stands[i], i as u8, core);
-        i += 1;
-    }
-    let runner = best.runner;
-    CoreRun { runner }
-}
-
-// What runs on each core.
-fn choose(stands: [Stand; 64], count: usize, cores: usize) -> [CoreRun; 16]
-    requires { ⌜ (count ≤ 64) × (cores ≤ 16) ⌝ }
-    ensures { λ r. ⌜ ((p : Plan) (s : State) → p .count ≡ count → stands ≡ padded 64 count noStand (standOf p s) → r ≡ padded 16 cores noRun (chosen p s)) ⌝ }
-{
-    let empty = no_run();
-    let mut runs = [empty; 16];
-    let mut x = 0;
-    while x < cores {
-        runs[x] = highest_on(stands, count, x);
-        x += 1;
-    }
-    runs
-}
-
-// Are there ticks left of the cost after one more?
-fn more_left(ran: u32, cost: u32) -> bool
-    ensures { λ r. ⌜ r ≡ ltb (ran + 1) cost ⌝ }
-{
-    (ran as u64) + 1 < cost as u64
-}
-
-// Rules 4 and 5 for one job, which runs or not, at a piece of this cost, its task's last or not.
-fn ran_job(job: Job, runs: bool, cost: u32, last: bool) -> Job
-    requires { ⌜ (last ≡ false → job .piece < 255) ⌝ }
-    ensures { λ r. ⌜ ((p : Plan) → pieceOf p (job .piece) .cost ≡ cost → isLast (pieceOf p) (p .placed) (job .piece) ≡ last → r ≡ cond runs (ranJob p job) job) ⌝ }
-{
-    let phase = job.phase;
-    if runs {
-        if more_left(job.ran, cost) {
-            Job {
-                phase,
-                late: job.late,
-                piece: job.piece,
-                age: job.age,
-                ran: job.ran + 1,
-            }
-        } else if last {
-            ended_job(job)
-        } else {
-            Job {
-                phase,
-                late: job.late,
-                piece: job.piece + 1,
-                age: job.age,
-                ran: 0,
+    let answer = judge(plan, state, finished, released);
+    match answer {
+        Answer::Accepted => {
+            let next = state.next(plan, finished, released);
+            let runs = next.last;
+            Ticked {
+                answer,
+                runs,
+                state: next,
             }
         }
+        Answer::Refused(_) => {
+            let empty = no_run();
+            let runs = [empty; 16];
+            Ticked {
+                answer,
+                runs,
+                state,
+            }
+        }
+    }
+}
+
+// ---- The refusals of a tick.
+// The refusals of a tick in their order: 4, 6, 5 and 8 for the plan, 9 for the state, then the sets'.
+fn judge(plan: Plan, state: State, finished: Tasks, released: Tasks) -> Answer
+    ensures { λ r. ⌜ r ≡ judged plan state finished released ⌝ }
+{
+    let answer = plans::check_plan(plan);
+    match answer {
+        Answer::Accepted => {
+            if well_made(plan, state) {
+                judge_sets(plan, state, finished, released)
+            } else {
+                Answer::Refused(Refusal::NotWellMade)
+            }
+        }
+        Answer::Refused(_) => answer,
+    }
+}
+
+// Refusals 10, 11 and 12; 11 and 12 are judged after finishes.
+fn judge_sets(plan: Plan, state: State, finished: Tasks, released: Tasks) -> Answer
+    requires { ⌜ (plan .cores ≤ 16) × (plan .count ≤ 64) ⌝ }
+    ensures { λ r. ⌜ r ≡ judgedSets plan state finished released ⌝ }
+{
+    let answer = judge_finished(plan, state, finished);
+    match answer {
+        Answer::Accepted => judge_released(plan, state.finish(plan, finished), released),
+        Answer::Refused(_) => answer,
+    }
+}
+
+// Refusal 10.
+fn judge_finished(plan: Plan, state: State, finished: Tasks) -> Answer
+    requires { ⌜ (plan .cores ≤ 16) × (plan .count ≤ 64) ⌝ }
+    ensures { λ r. ⌜ r ≡ lowest finished (notRun plan state) (λ t. Refusal.NotRun t) ⌝ }
+{
+    let t = lowest_wrong(marks(finished), not_run(plan, state));
+    if t < 256 {
+        Answer::Refused(Refusal::NotRun(TaskNo(t as u8)))
     } else {
-        job
+        Answer::Accepted
     }
 }
 
-// Was the task that ran on a core in the tick before, active or not since rule 1, preempted by what runs there now?
-fn preempted(before: Runner, active: bool, now: Runner) -> bool
-    ensures { λ r. ⌜ ((s n : State) (x : ℕ) → lastOf s x ≡ before → isActive (jobOf s (runningTask before) .phase) ≡ active → lastOf n x ≡ now → r ≡ pushed s n x) ⌝ }
+// Refusals 11 and 12, in the state after the finishes.
+fn judge_released(plan: Plan, state: State, released: Tasks) -> Answer
+    requires { ⌜ (plan .count ≤ 64) × ((i : ℕ) → plan .count ≤ i → jobOf state i ≡ noJob) ⌝ }
+    ensures { λ r. ⌜ r ≡ andThen (lowest released (tooSoon plan state) (λ t. Refusal.TooSoon t)) (lowest released (stillActive plan state) (λ t. Refusal.StillActive t)) ⌝ }
 {
-    match before {
-        Runner::Idle => false,
-        Runner::Runs(task) => active & !names(task.index(), now),
+    let members = marks(released);
+    let soon = lowest_wrong(members, too_soon(plan, state));
+    if soon < 256 {
+        return Answer::Refused(Refusal::TooSoon(TaskNo(soon as u8)));
     }
+    let active = lowest_wrong(members, still_active(plan, state));
+    if active < 256 {
+        return Answer::Refused(Refusal::StillActive(TaskNo(active as u8)));
+    }
+    Answer::Accepted
 }
 
-// The smaller of two counts.
-fn smaller(a: usize, b: usize) -> usize
-    ensures { λ r. ⌜ r ≡ min a b ⌝ }
+// The lowest task that is a member of a set and wrong, or 256.
+fn lowest_wrong(members: [bool; 256], wrong: [bool; 256]) -> usize
+    ensures { λ r. ⌜ r ≡ first 256 (λ t. getD members t false && getD wrong t false) ⌝ }
 {
-    if a < b { a } else { b }
+    let mut t = 0;
+    while t < 256 {
+        if members[t] & wrong[t] {
+            return t;
+        }
+        t += 1;
+    }
+    256
 }
 
-// The earlier of two places in the plan's list of pieces.
-fn earlier(a: u8, b: u8) -> u8
-    ensures { λ r. ⌜ r ≡ min a b ⌝ }
+// Refusal 10 for each task.
+fn not_run(plan: Plan, state: State) -> [bool; 256]
+    requires { ⌜ (plan .cores ≤ 16) × (plan .count ≤ 64) ⌝ }
+    ensures { λ r. ⌜ r ≡ tabulate 256 (notRun plan state) ⌝ }
 {
-    if a < b { a } else { b }
+    let ran = ran_marks(plan, state);
+    let mut wrong = [true; 256];
+    let mut t = 0;
+    while t < plan.count {
+        wrong[t] = !ran[t];
+        t += 1;
+    }
+    wrong
 }
 
-// Which tasks are in a set.
-fn marks(tasks: Tasks) -> [bool; 256]
-    ensures { λ r. ⌜ r ≡ tabulate 256 (member tasks) ⌝ }
+// Refusal 11 for each task.
+fn too_soon(plan: Plan, state: State) -> [bool; 256]
+    requires { ⌜ plan .count ≤ 64 ⌝ }
+    ensures { λ r. ⌜ r ≡ tabulate 256 (tooSoon plan state) ⌝ }
 {
-    let count = smaller(tasks.count, 64);
+    let mut wrong = [true; 256];
+    let mut t = 0;
+    while t < plan.count {
+        wrong[t] = waits(plan.tasks[t], state.jobs[t]);
+        t += 1;
+    }
+    wrong
+}
+
+// Refusal 12 for each task, in a state that has no jobs past the plan's.
+fn still_active(plan: Plan, state: State) -> [bool; 256]
+    requires { ⌜ (plan .count ≤ 64) × ((i : ℕ) → plan .count ≤ i → jobOf state i ≡ noJob) ⌝ }
+    ensures { λ r. ⌜ r ≡ tabulate 256 (stillActive plan state) ⌝ }
+{
+    let mut wrong = [false; 256];
+    let mut t = 0;
+    while t < plan.count {
+        wrong[t] = overruns(plan.tasks[t], state.jobs[t]);
+        t += 1;
+    }
+    wrong
+}
+
+// Which tasks ran in the tick before.
+fn ran_marks(plan: Plan, state: State) -> [bool; 256]
+    requires { ⌜ plan .cores ≤ 16 ⌝ }
+    ensures { λ r. ⌜ r ≡ tabulate 256 (λ t. any (plan .cores) (λ x. named t (lastOf state x))) ⌝ }
+{
     let mut marks = [false; 256];
-    let mut k = 0;
-    while k < count {
-        let task = tasks.members[k];
-        let t = task.index();
-        marks[t] = true;
-        k += 1;
+    let mut x = 0;
+    while x < plan.cores {
+        let core = state.last[x];
+        let runner = core.runner;
+        let task = task_of(runner);
+        marks[task] = marks[task] | is_running(runner);
+        x += 1;
     }
     marks
 }
 
-// The first piece of each task, in one walk over the pieces.
-fn first_pieces(plan: Plan) -> [u8; 256]
-    requires { ⌜ plan .placed ≤ 128 ⌝ }
-    ensures { λ r. ⌜ r ≡ tabulate 256 (firstPiece plan) ⌝ }
+// Once released and at age below p.
+fn waits(task: Task, job: Job) -> bool
+    ensures { λ r. ⌜ r ≡ onceReleased (job .phase) && ltb (job .age) (task .period) ⌝ }
 {
-    let placed = plan.placed;
-    let mut firsts = [placed as u8; 256];
-    let mut j = 0;
-    while j < placed {
-        let piece = plan.pieces[j];
-        let task = piece.task.index();
-        firsts[task] = earlier(firsts[task], j as u8);
-        j += 1;
-    }
-    firsts
+    let phase = job.phase;
+    once_released(phase) & (job.age < task.period)
 }
 
+// Active at age p.
+fn overruns(task: Task, job: Job) -> bool
+    ensures { λ r. ⌜ r ≡ isActive (job .phase) && eqb (job .age) (task .period) ⌝ }
+{
+    let phase = job.phase;
+    is_active(phase) & (job.age == task.period)
+}
+
+// ---- A well made state.
+// Are all jobs as a well made state has them?
+fn jobs_well_made(plan: Plan, state: State) -> bool
+    ensures { λ r. ⌜ r ≡ all (plan .count) (λ i. jobWellMade plan i (jobOf state i)) ⌝ }
+{
+    let count = smaller(plan.count, 64);
+    let mut good = true;
+    let mut i = 0;
+    while i < count {
+        let job = state.jobs[i];
+        let place = place_of(job);
+        let piece = piece_or_none(place, plan.pieces[smaller(place, 127)]);
+        good = good & job_well_made(i, plan.tasks[i], job, piece, plan.placed);
+        i += 1;
+    }
+    good
+}
+
+// Is each core's last task none or a task once released, and none on two cores?
+fn cores_well_made(plan: Plan, state: State) -> bool
+    ensures { λ r. ⌜ r ≡ all (plan .cores) (coreWellMade plan state) ⌝ }
+{
+    let count = smaller(plan.count, 64);
+    let cores = smaller(plan.cores, 16);
+    let mut seen = [false; 256];
+    let mut good = true;
+    let mut x = 0;
+    while x < cores {
+        let core = state.last[x];
+        let runner = core.runner;
+        let task = task_of(runner);
+        let job = state.jobs[smaller(task, 63)];
+        let phase = job.phase;
+        good = good & core_well_made(runner, (task < count) & once_released(phase), seen[task]);
+        seen[task] = seen[task] | is_running(runner);
+        x += 1;
+    }
+    good
+}
+
+// Task i's job is as a well made state has it, `piece` being the one that it is at.
+fn job_well_made(i: usize, task: Task, job: Job, piece: Piece, placed: usize) -> bool
+    ensures { λ r. ⌜ ((p : Plan) → taskOf p i ≡ task → p .placed ≡ placed → pieceOf p (job .piece) ≡ piece → r ≡ jobWellMade p i job) ⌝ }
+{
+    let phase = job.phase;
+    match phase {
+        Phase::Never => (job.age == 0) & at_no_piece(job),
+        Phase::Active => age_fits(task, job) & piece_exists(i, job, piece, placed),
+        Phase::Ended => age_fits(task, job) & at_no_piece(job),
+    }
+}
+
+// A core's last task is none, or a task of the plan that was once released and stands on no lower core.
+fn core_well_made(runner: Runner, released: bool, seen: bool) -> bool
+    ensures { λ r. ⌜ ((p : Plan) (s : State) (x : ℕ) → lastOf s x ≡ runner → ltb (runningTask runner) (p .count) && onceReleased (jobOf s (runningTask runner) .phase) ≡ released → any x (λ y. named (runningTask runner) (lastOf s y)) ≡ seen → r ≡ coreWellMade p s x) ⌝ }
+{
+    match runner {
+        Runner::Idle => true,
+        Runner::Runs(_) => released & !seen,
+    }
+}
+
+// An age of at least 1 and at most the period.
+fn age_fits(task: Task, job: Job) -> bool
+    ensures { λ r. ⌜ ((p : Plan) (i : ℕ) → taskOf p i ≡ task → r ≡ ageFits p i job) ⌝ }
+{
+    (1 <= job.age) & (job.age <= task.period)
+}
+
+// Does an active job's piece exist, being task i's, with ticks run there below its cost?
+fn piece_exists(i: usize, job: Job, piece: Piece, placed: usize) -> bool
+    ensures { λ r. ⌜ ((p : Plan) → p .placed ≡ placed → pieceOf p (job .piece) ≡ piece → r ≡ pieceExists p i job) ⌝ }
+{
+    (place_of(job) < placed) & (piece.task.index() == i) & (job.ran < piece.cost)
+}
+
+// Piece, ticks and late mark 0.
+fn at_no_piece(job: Job) -> bool
+    ensures { λ r. ⌜ r ≡ atNoPiece job ⌝ }
+{
+    (job.piece == 0) & (job.ran == 0) & !job.late
+}
+
+// The piece at a place of the plan's list, `here` being the one there or, past the list, any other.
+fn piece_or_none(place: usize, here: Piece) -> Piece
+    ensures { λ r. ⌜ ((pieces : List Piece) → length pieces ≡ 128 → getD pieces (min place 127) noPiece ≡ here → r ≡ getD pieces place noPiece) ⌝ }
+{
+    if place < 128 { here } else { no_piece() }
+}
+
+// ---- The rules of a tick.
 impl State {
+    // The state after an accepted tick: the rules in their order.
+    fn next(self, plan: Plan, finished: Tasks, released: Tasks) -> State
+        requires { ⌜ (checkedPlan plan ≡ Accepted) × (wellMade plan self ≡ true) ⌝ }
+        ensures { λ r. ⌜ r ≡ nextState plan finished released self ⌝ }
+    {
+        let after = self.finish(plan, finished);
+        let ran = after.mark_late(plan).release(plan, released).run(plan);
+        ran.count_preempted(plan, after).age(plan)
+    }
+
     // Rule 1: a finished task ends its job.
     fn finish(mut self, plan: Plan, finished: Tasks) -> State
         requires { ⌜ plan .count ≤ 64 ⌝ }
@@ -528,6 +433,19 @@ impl State {
         self
     }
 
+    // Rules 4 and 5: all runners are chosen before any of them has run.
+    fn run(mut self, plan: Plan) -> State
+        requires { ⌜ Sound plan × AtPieces plan self ⌝ }
+        ensures { λ r. ⌜ r ≡ run plan self ⌝ }
+    {
+        let stands = self.stands(plan);
+        let last = choose(stands, plan.count, plan.cores);
+        let jobs = self.ran_jobs(plan, stands, last);
+        self.jobs = jobs;
+        self.last = last;
+        self
+    }
+
     // Where each job stands.
     fn stands(self, plan: Plan) -> [Stand; 64]
         requires { ⌜ Sound plan × AtPieces plan self ⌝ }
@@ -574,19 +492,6 @@ impl State {
         jobs
     }
 
-    // Rules 4 and 5: all runners are chosen before any of them has run.
-    fn run(mut self, plan: Plan) -> State
-        requires { ⌜ Sound plan × AtPieces plan self ⌝ }
-        ensures { λ r. ⌜ r ≡ run plan self ⌝ }
-    {
-        let stands = self.stands(plan);
-        let last = choose(stands, plan.count, plan.cores);
-        let jobs = self.ran_jobs(plan, stands, last);
-        self.jobs = jobs;
-        self.last = last;
-        self
-    }
-
     // The preemptions, `after` being the state after rule 1 and this one having what runs now.
     fn count_preempted(mut self, plan: Plan, after: State) -> State
         requires { ⌜ (plan .cores ≤ 16) × RanTasks plan after ⌝ }
@@ -623,302 +528,404 @@ impl State {
         self.jobs = jobs;
         self
     }
-
-    // The state after an accepted tick: the rules in their order.
-    fn next(self, plan: Plan, finished: Tasks, released: Tasks) -> State
-        requires { ⌜ (checkedPlan plan ≡ Accepted) × (wellMade plan self ≡ true) ⌝ }
-        ensures { λ r. ⌜ r ≡ nextState plan finished released self ⌝ }
-    {
-        let after = self.finish(plan, finished);
-        let ran = after.mark_late(plan).release(plan, released).run(plan);
-        ran.count_preempted(plan, after).age(plan)
-    }
 }
 
-// An age of at least 1 and at most the period.
-fn age_fits(task: Task, job: Job) -> bool
-    ensures { λ r. ⌜ ((p : Plan) (i : ℕ) → taskOf p i ≡ task → r ≡ ageFits p i job) ⌝ }
-{
-    (1 <= job.age) & (job.age <= task.period)
-}
-
-// The piece at a place of the plan's list, `here` being the one there or, past the list, any other.
-fn piece_or_none(place: usize, here: Piece) -> Piece
-    ensures { λ r. ⌜ ((pieces : List Piece) → length pieces ≡ 128 → getD pieces (min place 127) noPiece ≡ here → r ≡ getD pieces place noPiece) ⌝ }
-{
-    if place < 128 { here } else { no_piece() }
-}
-
-// Does an active job's piece exist, being task i's, with ticks run there below its cost?
-fn piece_exists(i: usize, job: Job, piece: Piece, placed: usize) -> bool
-    ensures { λ r. ⌜ ((p : Plan) → p .placed ≡ placed → pieceOf p (job .piece) ≡ piece → r ≡ pieceExists p i job) ⌝ }
-{
-    (place_of(job) < placed) & (piece.task.index() == i) & (job.ran < piece.cost)
-}
-
-// Piece, ticks and late mark 0.
-fn at_no_piece(job: Job) -> bool
-    ensures { λ r. ⌜ r ≡ atNoPiece job ⌝ }
-{
-    (job.piece == 0) & (job.ran == 0) & !job.late
-}
-
-// Task i's job is as a well made state has it, `piece` being the one that it is at.
-fn job_well_made(i: usize, task: Task, job: Job, piece: Piece, placed: usize) -> bool
-    ensures { λ r. ⌜ ((p : Plan) → taskOf p i ≡ task → p .placed ≡ placed → pieceOf p (job .piece) ≡ piece → r ≡ jobWellMade p i job) ⌝ }
+// ---- The rules for one job.
+// Rule 1 for one job, whose task is among the finished ones or not.
+fn finished_job(job: Job, finished: bool) -> Job
+    ensures { λ r. ⌜ ((fs : Tasks) (i : ℕ) → member fs i ≡ finished → r ≡ finishedJob fs i job) ⌝ }
 {
     let phase = job.phase;
-    match phase {
-        Phase::Never => (job.age == 0) & at_no_piece(job),
-        Phase::Active => age_fits(task, job) & piece_exists(i, job, piece, placed),
-        Phase::Ended => age_fits(task, job) & at_no_piece(job),
+    if finished & is_active(phase) {
+        ended_job(job)
+    } else {
+        job
     }
 }
 
-// A core's last task is none, or a task of the plan that was once released and stands on no lower core.
-fn core_well_made(runner: Runner, released: bool, seen: bool) -> bool
-    ensures { λ r. ⌜ ((p : Plan) (s : State) (x : ℕ) → lastOf s x ≡ runner → ltb (runningTask runner) (p .count) && onceReleased (jobOf s (runningTask runner) .phase) ≡ released → any x (λ y. named (runningTask runner) (lastOf s y)) ≡ seen → r ≡ coreWellMade p s x) ⌝ }
+fn ended_job(job: Job) -> Job
+    ensures { λ r. ⌜ r ≡ endedJob job ⌝ }
 {
-    match runner {
-        Runner::Idle => true,
-        Runner::Runs(_) => released & !seen,
+    Job {
+        phase: Phase::Ended,
+        late: false,
+        piece: 0,
+        age: job.age,
+        ran: 0,
     }
 }
 
-// Are all jobs as a well made state has them?
-fn jobs_well_made(plan: Plan, state: State) -> bool
-    ensures { λ r. ⌜ r ≡ all (plan .count) (λ i. jobWellMade plan i (jobOf state i)) ⌝ }
+// Rule 2 for one job.
+fn turns_late(task: Task, job: Job) -> bool
+    ensures { λ r. ⌜ ((p : Plan) (i : ℕ) → taskOf p i ≡ task → r ≡ turnsLate p i job) ⌝ }
 {
-    let count = smaller(plan.count, 64);
-    let mut good = true;
-    let mut i = 0;
-    while i < count {
-        let job = state.jobs[i];
-        let place = place_of(job);
-        let piece = piece_or_none(place, plan.pieces[smaller(place, 127)]);
-        good = good & job_well_made(i, plan.tasks[i], job, piece, plan.placed);
-        i += 1;
-    }
-    good
+    let phase = job.phase;
+    is_active(phase) & (job.age == task.deadline) & !job.late
 }
 
-// Is each core's last task none or a task once released, and none on two cores?
-fn cores_well_made(plan: Plan, state: State) -> bool
-    ensures { λ r. ⌜ r ≡ all (plan .cores) (coreWellMade plan state) ⌝ }
+fn marked_job(job: Job, late: bool) -> Job
+    ensures { λ r. ⌜ ((p : Plan) (i : ℕ) → turnsLate p i job ≡ late → r ≡ markedJob p i job) ⌝ }
 {
-    let count = smaller(plan.count, 64);
-    let cores = smaller(plan.cores, 16);
-    let mut seen = [false; 256];
-    let mut good = true;
+    if late {
+        let phase = job.phase;
+        Job {
+            phase,
+            late,
+            piece: job.piece,
+            age: job.age,
+            ran: job.ran,
+        }
+    } else {
+        job
+    }
+}
+
+// Rule 3 for one job, whose task is among the released ones or not.
+fn released_job(job: Job, released: bool, first: u8) -> Job
+    ensures { λ r. ⌜ ((p : Plan) (rs : Tasks) (i : ℕ) → member rs i ≡ released → firstPiece p i ≡ first → r ≡ releasedJob p rs i job) ⌝ }
+{
+    if released {
+        Job {
+            phase: Phase::Active,
+            late: false,
+            piece: first,
+            age: 0,
+            ran: 0,
+        }
+    } else {
+        job
+    }
+}
+
+// The first piece of each task, in one walk over the pieces.
+fn first_pieces(plan: Plan) -> [u8; 256]
+    requires { ⌜ plan .placed ≤ 128 ⌝ }
+    ensures { λ r. ⌜ r ≡ tabulate 256 (firstPiece plan) ⌝ }
+{
+    let placed = plan.placed;
+    let mut firsts = [placed as u8; 256];
+    let mut j = 0;
+    while j < placed {
+        let piece = plan.pieces[j];
+        let task = piece.task.index();
+        firsts[task] = earlier(firsts[task], j as u8);
+        j += 1;
+    }
+    firsts
+}
+
+// Rules 4 and 5 for one job, which runs or not, at a piece of this cost, its task's last or not.
+fn ran_job(job: Job, runs: bool, cost: u32, last: bool) -> Job
+    requires { ⌜ (last ≡ false → job .piece < 255) ⌝ }
+    ensures { λ r. ⌜ ((p : Plan) → pieceOf p (job .piece) .cost ≡ cost → isLast (pieceOf p) (p .placed) (job .piece) ≡ last → r ≡ cond runs (ranJob p job) job) ⌝ }
+{
+    let phase = job.phase;
+    if runs {
+        if more_left(job.ran, cost) {
+            Job {
+                phase,
+                late: job.late,
+                piece: job.piece,
+                age: job.age,
+                ran: job.ran + 1,
+            }
+        } else if last {
+            ended_job(job)
+        } else {
+            Job {
+                phase,
+                late: job.late,
+                piece: job.piece + 1,
+                age: job.age,
+                ran: 0,
+            }
+        }
+    } else {
+        job
+    }
+}
+
+// Are there ticks left of the cost after one more?
+fn more_left(ran: u32, cost: u32) -> bool
+    ensures { λ r. ⌜ r ≡ ltb (ran + 1) cost ⌝ }
+{
+    (ran as u64) + 1 < cost as u64
+}
+
+// Rule 6 for one job.
+fn aged_job(task: Task, job: Job) -> Job
+    ensures { λ r. ⌜ ((p : Plan) (i : ℕ) → taskOf p i ≡ task → r ≡ agedJob p i job) ⌝ }
+{
+    let phase = job.phase;
+    if once_released(phase) {
+        Job {
+            phase,
+            late: job.late,
+            piece: job.piece,
+            age: older(job.age, task.period),
+            ran: job.ran,
+        }
+    } else {
+        job
+    }
+}
+
+// An age one tick on, up to the period.
+fn older(age: u32, period: u32) -> u32
+    ensures { λ r. ⌜ r ≡ min (age + 1) period ⌝ }
+{
+    if age < period { age + 1 } else { period }
+}
+
+// Was the task that ran on a core in the tick before, active or not since rule 1, preempted by what runs there now?
+fn preempted(before: Runner, active: bool, now: Runner) -> bool
+    ensures { λ r. ⌜ ((s n : State) (x : ℕ) → lastOf s x ≡ before → isActive (jobOf s (runningTask before) .phase) ≡ active → lastOf n x ≡ now → r ≡ pushed s n x) ⌝ }
+{
+    match before {
+        Runner::Idle => false,
+        Runner::Runs(task) => active & !names(task.index(), now),
+    }
+}
+
+// ---- The choice of what runs on each core.
+// Where a job stands: whether it is active, its piece, whether that is its task's last, and its task's deadline.
+struct Stand {
+    active: bool,
+    last: bool,
+    piece: Piece,
+    deadline: u32,
+}
+
+// The best found so far on a core, and where its job stands.
+struct Best {
+    runner: Runner,
+    stand: Stand,
+}
+
+// What runs on each core.
+fn choose(stands: [Stand; 64], count: usize, cores: usize) -> [CoreRun; 16]
+    requires { ⌜ (count ≤ 64) × (cores ≤ 16) ⌝ }
+    ensures { λ r. ⌜ ((p : Plan) (s : State) → p .count ≡ count → stands ≡ padded 64 count noStand (standOf p s) → r ≡ padded 16 cores noRun (chosen p s)) ⌝ }
+{
+    let empty = no_run();
+    let mut runs = [empty; 16];
     let mut x = 0;
     while x < cores {
-        let core = state.last[x];
-        let runner = core.runner;
-        let task = task_of(runner);
-        let job = state.jobs[smaller(task, 63)];
-        let phase = job.phase;
-        good = good & core_well_made(runner, (task < count) & once_released(phase), seen[task]);
-        seen[task] = seen[task] | is_running(runner);
+        runs[x] = highest_on(stands, count, x);
         x += 1;
     }
-    good
+    runs
 }
 
-// Is the state well made? Any plan and any state may be given.
-pub fn well_made(plan: Plan, state: State) -> bool
-    ensures { λ r. ⌜ r ≡ wellMade plan state ⌝ }
+// The highest ranked job on a core: one walk over the tasks.
+fn highest_on(stands: [Stand; 64], count: usize, core: usize) -> CoreRun
+    requires { ⌜ count ≤ 64 ⌝ }
+    ensures { λ r. ⌜ ((p : Plan) (s : State) → p .count ≡ count → stands ≡ padded 64 count noStand (standOf p s) → r ≡ chosen p s core) ⌝ }
 {
-    jobs_well_made(plan, state) & cores_well_made(plan, state)
+    let runner = Runner::Idle;
+    let stand = no_stand();
+    let mut best = Best { runner, stand };
+    let mut i = 0;
+    while i < count {
+        best = better(best, stands[i], i as u8, core);
+        i += 1;
+    }
+    let runner = best.runner;
+    CoreRun { runner }
 }
 
-// A fresh state has nothing released and zeros.
-pub fn fresh() -> State
-    ensures { λ r. ⌜ r ≡ freshState ⌝ }
+// The best on a core, one more job being looked at.
+fn better(best: Best, stand: Stand, task: u8, core: usize) -> Best
+    ensures { λ r. ⌜ ((p : Plan) (s : State) → stand ≡ standOf p s task → best ≡ bestOf p s core task → r ≡ bestOf p s core (task + 1)) ⌝ }
 {
-    let job = no_job();
-    let run = no_run();
-    let jobs = [job; 64];
-    let last = [run; 16];
-    State {
-        jobs,
-        last,
-        late: 0,
-        preemptions: 0,
+    let place = stand.piece.core;
+    let here = stand.active & (place.index() == core);
+    if here & beats(stand, best) {
+        let runner = Runner::Runs(TaskNo(task));
+        Best { runner, stand }
+    } else {
+        best
     }
 }
 
-// Which tasks ran in the tick before.
-fn ran_marks(plan: Plan, state: State) -> [bool; 256]
-    requires { ⌜ plan .cores ≤ 16 ⌝ }
-    ensures { λ r. ⌜ r ≡ tabulate 256 (λ t. any (plan .cores) (λ x. named t (lastOf state x))) ⌝ }
+// Is the job's piece ranked above that of the best found so far?
+fn beats(stand: Stand, best: Best) -> bool
+    ensures { λ r. ⌜ ((p : Plan) (s : State) (x k i : ℕ) → stand ≡ standOf p s i → best ≡ bestOf p s x k → r ≡ beaten p s i (highest p s x k)) ⌝ }
 {
+    let runner = best.runner;
+    let held = best.stand;
+    match runner {
+        Runner::Idle => true,
+        Runner::Runs(_) => is_above(stand, held),
+    }
+}
+
+// Is the piece of the one on the core of the other's and ranked above it?
+fn is_above(a: Stand, b: Stand) -> bool
+    ensures { λ r. ⌜ ((ts : ℕ → Task) → ts (a .piece .task .0) .deadline ≡ a .deadline → ts (b .piece .task .0) .deadline ≡ b .deadline → r ≡ above ts (a .piece) (b .piece)) ⌝ }
+{
+    let a_piece = a.piece;
+    let b_piece = b.piece;
+    (a_piece.core.index() == b_piece.core.index())
+        & plans::outranks(a_piece, a.deadline, b_piece, b.deadline)
+}
+
+// Is the piece at j, of the first `placed`, its task's last, `next` being the one after it?
+fn is_last(placed: usize, j: usize, piece: Piece, next: Piece) -> bool
+    requires { ⌜ j < 256 ⌝ }
+    ensures { λ r. ⌜ ((pc : ℕ → Piece) → pc j ≡ piece → (j + 1 < placed → pc (j + 1) ≡ next) → r ≡ isLast pc placed j) ⌝ }
+{
+    if j + 1 < placed {
+        piece.task.index() != next.task.index()
+    } else {
+        true
+    }
+}
+
+// ---- Phases, runners, sets and totals.
+fn is_active(phase: Phase) -> bool
+    ensures { λ r. ⌜ r ≡ isActive phase ⌝ }
+{
+    match phase {
+        Phase::Never => false,
+        Phase::Active => true,
+        Phase::Ended => false,
+    }
+}
+
+fn once_released(phase: Phase) -> bool
+    ensures { λ r. ⌜ r ≡ onceReleased phase ⌝ }
+{
+    match phase {
+        Phase::Never => false,
+        Phase::Active => true,
+        Phase::Ended => true,
+    }
+}
+
+// Is it this task that runs?
+fn names(task: usize, runner: Runner) -> bool
+    ensures { λ r. ⌜ r ≡ named task runner ⌝ }
+{
+    match runner {
+        Runner::Idle => false,
+        Runner::Runs(t) => t.index() == task,
+    }
+}
+
+// The task that runs, or 0 where nothing does.
+fn task_of(runner: Runner) -> usize
+    ensures { λ r. ⌜ (r ≡ runningTask runner) × (r < 256) ⌝ }
+{
+    match runner {
+        Runner::Idle => 0,
+        Runner::Runs(task) => task.index(),
+    }
+}
+
+// Does a task run?
+fn is_running(runner: Runner) -> bool
+    ensures { λ r. ⌜ r ≡ byRunner runner false (λ t. true) ⌝ }
+{
+    match runner {
+        Runner::Idle => false,
+        Runner::Runs(_) => true,
+    }
+}
+
+// Which tasks are in a set.
+fn marks(tasks: Tasks) -> [bool; 256]
+    ensures { λ r. ⌜ r ≡ tabulate 256 (member tasks) ⌝ }
+{
+    let count = smaller(tasks.count, 64);
     let mut marks = [false; 256];
-    let mut x = 0;
-    while x < plan.cores {
-        let core = state.last[x];
-        let runner = core.runner;
-        let task = task_of(runner);
-        marks[task] = marks[task] | is_running(runner);
-        x += 1;
+    let mut k = 0;
+    while k < count {
+        let task = tasks.members[k];
+        let t = task.index();
+        marks[t] = true;
+        k += 1;
     }
     marks
 }
 
-// Refusal 10 for each task.
-fn not_run(plan: Plan, state: State) -> [bool; 256]
-    requires { ⌜ (plan .cores ≤ 16) × (plan .count ≤ 64) ⌝ }
-    ensures { λ r. ⌜ r ≡ tabulate 256 (notRun plan state) ⌝ }
+// A total with k more, which stops at 4,294,967,295.
+fn total(base: u32, k: u32) -> u32
+    ensures { λ r. ⌜ r ≡ totalled base k ⌝ }
 {
-    let ran = ran_marks(plan, state);
-    let mut wrong = [true; 256];
-    let mut t = 0;
-    while t < plan.count {
-        wrong[t] = !ran[t];
-        t += 1;
-    }
-    wrong
-}
-
-// Once released and at age below p.
-fn waits(task: Task, job: Job) -> bool
-    ensures { λ r. ⌜ r ≡ onceReleased (job .phase) && ltb (job .age) (task .period) ⌝ }
-{
-    let phase = job.phase;
-    once_released(phase) & (job.age < task.period)
-}
-
-// Refusal 11 for each task.
-fn too_soon(plan: Plan, state: State) -> [bool; 256]
-    requires { ⌜ plan .count ≤ 64 ⌝ }
-    ensures { λ r. ⌜ r ≡ tabulate 256 (tooSoon plan state) ⌝ }
-{
-    let mut wrong = [true; 256];
-    let mut t = 0;
-    while t < plan.count {
-        wrong[t] = waits(plan.tasks[t], state.jobs[t]);
-        t += 1;
-    }
-    wrong
-}
-
-// Active at age p.
-fn overruns(task: Task, job: Job) -> bool
-    ensures { λ r. ⌜ r ≡ isActive (job .phase) && eqb (job .age) (task .period) ⌝ }
-{
-    let phase = job.phase;
-    is_active(phase) & (job.age == task.period)
-}
-
-// Refusal 12 for each task, in a state that has no jobs past the plan's.
-fn still_active(plan: Plan, state: State) -> [bool; 256]
-    requires { ⌜ (plan .count ≤ 64) × ((i : ℕ) → plan .count ≤ i → jobOf state i ≡ noJob) ⌝ }
-    ensures { λ r. ⌜ r ≡ tabulate 256 (stillActive plan state) ⌝ }
-{
-    let mut wrong = [false; 256];
-    let mut t = 0;
-    while t < plan.count {
-        wrong[t] = overruns(plan.tasks[t], state.jobs[t]);
-        t += 1;
-    }
-    wrong
-}
-
-// The lowest task that is a member of a set and wrong, or 256.
-fn lowest_wrong(members: [bool; 256], wrong: [bool; 256]) -> usize
-    ensures { λ r. ⌜ r ≡ first 256 (λ t. getD members t false && getD wrong t false) ⌝ }
-{
-    let mut t = 0;
-    while t < 256 {
-        if members[t] & wrong[t] {
-            return t;
-        }
-        t += 1;
-    }
-    256
-}
-
-// Refusal 10.
-fn judge_finished(plan: Plan, state: State, finished: Tasks) -> Answer
-    requires { ⌜ (plan .cores ≤ 16) × (plan .count ≤ 64) ⌝ }
-    ensures { λ r. ⌜ r ≡ lowest finished (notRun plan state) (λ t. Refusal.NotRun t) ⌝ }
-{
-    let t = lowest_wrong(marks(finished), not_run(plan, state));
-    if t < 256 {
-        Answer::Refused(Refusal::NotRun(TaskNo(t as u8)))
+    if k < 4294967295 - base {
+        base + k
     } else {
-        Answer::Accepted
+        4294967295
     }
 }
 
-// Refusals 11 and 12, in the state after the finishes.
-fn judge_released(plan: Plan, state: State, released: Tasks) -> Answer
-    requires { ⌜ (plan .count ≤ 64) × ((i : ℕ) → plan .count ≤ i → jobOf state i ≡ noJob) ⌝ }
-    ensures { λ r. ⌜ r ≡ andThen (lowest released (tooSoon plan state) (λ t. Refusal.TooSoon t)) (lowest released (stillActive plan state) (λ t. Refusal.StillActive t)) ⌝ }
+fn one_if(counts: bool) -> u32
+    ensures { λ r. ⌜ (r ≡ cond counts 1 0) × (r ≤ 1) ⌝ }
 {
-    let members = marks(released);
-    let soon = lowest_wrong(members, too_soon(plan, state));
-    if soon < 256 {
-        return Answer::Refused(Refusal::TooSoon(TaskNo(soon as u8)));
-    }
-    let active = lowest_wrong(members, still_active(plan, state));
-    if active < 256 {
-        return Answer::Refused(Refusal::StillActive(TaskNo(active as u8)));
-    }
-    Answer::Accepted
+    if counts { 1 } else { 0 }
 }
 
-// Refusals 10, 11 and 12; 11 and 12 are judged after finishes.
-fn judge_sets(plan: Plan, state: State, finished: Tasks, released: Tasks) -> Answer
-    requires { ⌜ (plan .cores ≤ 16) × (plan .count ≤ 64) ⌝ }
-    ensures { λ r. ⌜ r ≡ judgedSets plan state finished released ⌝ }
+// A job's piece as a place in the plan's list.
+fn place_of(job: Job) -> usize
+    ensures { λ r. ⌜ (r ≡ job .piece) × (r < 256) ⌝ }
 {
-    let answer = judge_finished(plan, state, finished);
-    match answer {
-        Answer::Accepted => judge_released(plan, state.finish(plan, finished), released),
-        Answer::Refused(_) => answer,
-    }
+    job.piece as usize
 }
 
-// The refusals of a tick in their order: 4, 6, 5 and 8 for the plan, 9 for the state, then the sets'.
-fn judge(plan: Plan, state: State, finished: Tasks, released: Tasks) -> Answer
-    ensures { λ r. ⌜ r ≡ judged plan state finished released ⌝ }
+// The smaller of two counts.
+fn smaller(a: usize, b: usize) -> usize
+    ensures { λ r. ⌜ r ≡ min a b ⌝ }
 {
-    let answer = plans::check_plan(plan);
-    match answer {
-        Answer::Accepted => {
-            if well_made(plan, state) {
-                judge_sets(plan, state, finished, released)
-            } else {
-                Answer::Refused(Refusal::NotWellMade)
-            }
-        }
-        Answer::Refused(_) => answer,
+    if a < b { a } else { b }
+}
+
+// The earlier of two places in the plan's list of pieces.
+fn earlier(a: u8, b: u8) -> u8
+    ensures { λ r. ⌜ r ≡ min a b ⌝ }
+{
+    if a < b { a } else { b }
+}
+
+fn no_job() -> Job
+    ensures { λ r. ⌜ r ≡ noJob ⌝ }
+{
+    Job {
+        phase: Phase::Never,
+        late: false,
+        piece: 0,
+        age: 0,
+        ran: 0,
     }
 }
 
-// One tick, for any plan, any state and any two sets: the rules in their order, or a refusal.
-pub fn tick(plan: Plan, state: State, finished: Tasks, released: Tasks) -> Ticked
-    ensures { λ r. ⌜ r ≡ ticked plan state finished released ⌝ }
+fn no_run() -> CoreRun
+    ensures { λ r. ⌜ r ≡ noRun ⌝ }
 {
-    let answer = judge(plan, state, finished, released);
-    match answer {
-        Answer::Accepted => {
-            let next = state.next(plan, finished, released);
-            let runs = next.last;
-            Ticked {
-                answer,
-                runs,
-                state: next,
-            }
-        }
-        Answer::Refused(_) => {
-            let empty = no_run();
-            let runs = [empty; 16];
-            Ticked {
-                answer,
-                runs,
-                state,
-            }
-        }
+    CoreRun {
+        runner: Runner::Idle,
+    }
+}
+
+fn no_stand() -> Stand
+    ensures { λ r. ⌜ r ≡ noStand ⌝ }
+{
+    let piece = no_piece();
+    Stand {
+        active: false,
+        last: false,
+        piece,
+        deadline: 0,
+    }
+}
+
+fn no_piece() -> Piece
+    ensures { λ r. ⌜ r ≡ noPiece ⌝ }
+{
+    Piece {
+        task: TaskNo(0),
+        core: CoreNo(0),
+        kind: Kind::Whole,
+        cost: 0,
     }
 }
