@@ -11,3 +11,4 @@ pub mod Alone
 pub mod Forward
 pub mod SamePlans
 pub mod Agree
+pub mod Settled

@@ -12,3 +12,4 @@ pub mod Accepted
 pub mod Files
 pub mod Trips
 pub mod Parts
+pub mod Settled

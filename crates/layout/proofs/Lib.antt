@@ -16,3 +16,4 @@ pub mod Shape
 pub mod Certified
 pub mod Refusal
 pub mod Turns
+pub mod Settled

@@ -3,3 +3,4 @@ pub mod Rank
 pub mod Sums
 pub mod Shaped
 pub mod InShape
+pub mod Settled

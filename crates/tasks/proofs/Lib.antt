@@ -4,3 +4,5 @@ pub mod Padded
 pub mod Tables
 pub mod Tabulate
 pub mod Counting
+pub mod Settling
+pub mod Settled
