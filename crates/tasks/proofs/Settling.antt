@@ -7,3 +7,7 @@ Settles {X = X} {R = R} {E = E} P = (x : X) (e : E) (r s : R) → P x r e → P 
 
 pub settled : {A : Type 0} {d r s : A} → r ≡ d → s ≡ d → r ≡ s
 settled p q = p ∙ sym q
+
+-- and it settles what is lent, read off the arguments at exit
+abbrev pub Lends : {X R E A : Type 0} → (X → R → E → Type 0) → (E → A) → Type 0
+Lends {X = X} {R = R} {E = E} P bytes = (x : X) (e f : E) (r s : R) → P x r e → P x s f → bytes e ≡ bytes f
