@@ -75,6 +75,7 @@ pub struct Ticked {
 }
 
 // ---- What the board calls: a fresh state, the check of a state, one tick.
+
 // A fresh state has nothing released and zeros.
 pub fn fresh() -> State
     ensures { λ r. ⌜ r ≡ freshState ⌝ }
@@ -126,6 +127,7 @@ pub fn tick(plan: Plan, state: State, finished: Tasks, released: Tasks) -> Ticke
 }
 
 // ---- The refusals of a tick.
+
 // The refusals of a tick in their order: 4, 6, 5 and 8 for the plan, 9 for the state, then the sets'.
 fn judge(plan: Plan, state: State, finished: Tasks, released: Tasks) -> Answer
     ensures { λ r. ⌜ r ≡ judged plan state finished released ⌝ }
@@ -276,6 +278,7 @@ fn overruns(task: Task, job: Job) -> bool
 }
 
 // ---- A well made state.
+
 // Are all jobs as a well made state has them?
 fn jobs_well_made(plan: Plan, state: State) -> bool
     ensures { λ r. ⌜ r ≡ all (plan .count) (λ i. jobWellMade plan i (jobOf state i)) ⌝ }
@@ -366,6 +369,7 @@ fn piece_or_none(place: usize, here: Piece) -> Piece
 }
 
 // ---- The rules of a tick.
+
 impl State {
     // The state after an accepted tick: the rules in their order.
     fn next(self, plan: Plan, finished: Tasks, released: Tasks) -> State
@@ -531,6 +535,7 @@ impl State {
 }
 
 // ---- The rules for one job.
+
 // Rule 1 for one job, whose task is among the finished ones or not.
 fn finished_job(job: Job, finished: bool) -> Job
     ensures { λ r. ⌜ ((fs : Tasks) (i : ℕ) → member fs i ≡ finished → r ≡ finishedJob fs i job) ⌝ }
@@ -688,6 +693,7 @@ fn preempted(before: Runner, active: bool, now: Runner) -> bool
 }
 
 // ---- The choice of what runs on each core.
+
 // Where a job stands: whether it is active, its piece, whether that is its task's last, and its task's deadline.
 struct Stand {
     active: bool,
@@ -783,6 +789,7 @@ fn is_last(placed: usize, j: usize, piece: Piece, next: Piece) -> bool
 }
 
 // ---- Phases, runners, sets and totals.
+
 fn is_active(phase: Phase) -> bool
     ensures { λ r. ⌜ r ≡ isActive phase ⌝ }
 {
