@@ -1,0 +1,21 @@
+use borrow.Author.Needs.{needs}
+use Rattle.runs.proofs.refused.Statement.{statement}
+use Rattle.runs.proofs.refused.Tie as tie
+use Rattle.runs.proofs.refused.Reads as reads
+use Rattle.runs.proofs.refused.Lts as lts
+use Rattle.runs.proofs.no_tasks.Reads as no-tasks-reads
+
+-- src/lib.rt:209:19
+no-tasks-requires : tie.Need-no-tasks-requires
+no-tasks-requires c κs = search needs
+
+-- src/lib.rt:210:19
+no-tasks-requires-2 : tie.Need-no-tasks-requires-2
+no-tasks-requires-2 c κs = search needs
+
+-- src/lib.rt:204:1
+returns : tie.Need-returns
+returns c = simp (c .no-tasks2 .ensures, c .before .no-tasks .ensures)
+
+pub refused-spec : {M : Type 1} → statement M
+refused-spec = tie.close (tie.spec no-tasks-requires no-tasks-requires-2 returns)

@@ -1,0 +1,112 @@
+use borrow.Author.Needs.{needs}
+use Rattle.runs.specs.Watched.{seen, watchedIn, watchTick}
+use Rattle.tasks.proofs.Tabulate.{padded-start}
+use Rattle.tasks.proofs.Padded.{padded-turn}
+use Rattle.tasks.specs.Below.{padded}
+use lib.ListN.{getD}
+use Prim.Native.Nat.{_≤_, _-_, max}
+use native.Mathlib.Omega.{arith}
+use mathlib.Core.Path.{_≡_, refl, sym, ap, _∙_}
+use Rattle.runs.proofs.watch_tick.Statement.{statement}
+use Rattle.runs.proofs.watch_tick.Tie as tie
+use Rattle.runs.proofs.watch_tick.Reads as reads
+use Rattle.runs.proofs.watch_tick.Lts as lts
+use Rattle.runs.proofs.age_if.Reads as age-if-reads
+use Rattle.runs.proofs.full_tick.Reads as full-tick-reads
+use Rattle.runs.proofs.larger.Reads as larger-reads
+use Rattle.runs.proofs.ran_in.Reads as ran-in-reads
+use Rattle.runs.proofs.smaller.Reads as smaller-reads
+
+abbrev Inv-loop : tie.InvT-loop
+Inv-loop plan watched state runs count longest₀ i₀ longest i = (i ≤ count) × (count ≤ 64) × (longest ≡ padded 64 i 0 (λ k. max (getD (watched .longest) k 0) (seen (plan .cores) runs state k)))
+
+abbrev μ-loop : tie.MeasureT-loop
+μ-loop plan watched state runs count longest₀ i₀ longest i = count - i
+
+-- src/lib.rt:146:9
+full-tick-requires : tie.Need-full-tick-requires Inv-loop μ-loop
+full-tick-requires c κs = search needs
+
+-- src/lib.rt:149:9
+smaller-requires : tie.Need-smaller-requires Inv-loop μ-loop
+smaller-requires c κs = search needs
+
+-- src/lib.rt:152:5
+loop-holds : tie.Need-loop-holds Inv-loop μ-loop
+loop-holds c = (search needs, omega (arith, c .smaller .ensures), padded-start 64 0 _)
+
+-- src/lib.rt:153:26
+ran-in-requires : tie.Need-ran-in-requires Inv-loop μ-loop
+ran-in-requires c κs = search needs
+
+-- src/lib.rt:153:55
+mul-age-if : tie.Need-mul-age-if Inv-loop μ-loop
+mul-age-if c = search needs
+
+-- src/lib.rt:153:55
+element-copy-out-age-if : tie.Need-element-copy-out-age-if Inv-loop μ-loop
+element-copy-out-age-if c = search needs
+
+-- src/lib.rt:153:13
+age-if-requires : tie.Need-age-if-requires Inv-loop μ-loop
+age-if-requires c κs = search needs
+
+-- src/lib.rt:154:29
+mul-larger : tie.Need-mul-larger Inv-loop μ-loop
+mul-larger c = search needs
+
+-- src/lib.rt:154:29
+element-copy-out-larger : tie.Need-element-copy-out-larger Inv-loop μ-loop
+element-copy-out-larger c = search needs
+
+-- src/lib.rt:154:22
+larger-requires : tie.Need-larger-requires Inv-loop μ-loop
+larger-requires c κs = search needs
+
+-- src/lib.rt:154:9
+mul-longest : tie.Need-mul-longest Inv-loop μ-loop
+mul-longest c = search needs
+
+-- src/lib.rt:154:9
+array-write-longest : tie.Need-array-write-longest Inv-loop μ-loop
+array-write-longest c = search needs
+
+-- src/lib.rt:155:9
+add-i : tie.Need-add-i Inv-loop μ-loop
+add-i c = search needs
+
+-- src/lib.rt:152:5
+loop-less : tie.Need-loop-less Inv-loop μ-loop
+loop-less c = search needs
+
+-- src/lib.rt:152:5
+loop-again : tie.Need-loop-again Inv-loop μ-loop
+loop-again c = (search needs, search needs, padded-turn 64 0 _ _ _ _ (omega arith) (c .before .before .before .before .before .before .loop .inv .2) (rw (c .larger .ensures, c .before .before .age-if .ensures, c .before .before .before .before .ran-in .ensures)))
+
+-- src/lib.rt:142:1
+returns : tie.Need-returns Inv-loop μ-loop
+unfolding watchTick
+returns c = let e : c .before .loop .i ≡ c .before .before .smaller .result = omega arith in simp (c .before .loop .inv .2, e, c .before .before .smaller .ensures, c .before .before .before .before .before .full-tick .ensures)
+
+pub watch-tick-spec : {M : Type 1} → statement M
+watch-tick-spec =
+    tie.close
+    (tie.spec
+    Inv-loop
+    μ-loop
+    full-tick-requires
+    smaller-requires
+    loop-holds
+    ran-in-requires
+    mul-age-if
+    element-copy-out-age-if
+    age-if-requires
+    mul-larger
+    element-copy-out-larger
+    larger-requires
+    mul-longest
+    array-write-longest
+    add-i
+    loop-less
+    loop-again
+    returns)

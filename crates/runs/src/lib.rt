@@ -1,0 +1,252 @@
+// Runs: ticks in which every task is released as soon as allowed, what is seen in them, and a tick's request as bytes.
+ghost use mathlib.Core.Path.{_≡_};
+ghost use mathlib.Core.Bool.{true, false, cond};
+ghost use Prim.Native.Nat.{_+_, _≤_, _<_, min, max};
+ghost use lib.Dec.{eqb};
+ghost use lib.ListN.{length};
+ghost use Rattle.dispatch.specs.Jobs.{byPhase, names};
+ghost use Rattle.runs.specs.Allowed.{noTasks, withTask, allowedSet, fullTick};
+ghost use Rattle.runs.specs.Requests.{tasksAt, requestSize, refusedRequest, requestRead};
+ghost use Rattle.runs.specs.Watched.{ranIn, watchTick, watched};
+use dispatch::CoreRun;
+use dispatch::Job;
+use dispatch::Phase;
+use dispatch::Runner;
+use dispatch::State;
+use dispatch::Tasks;
+use dispatch::Ticked;
+use plans::Plan;
+use tasks::Answer;
+use tasks::Place;
+use tasks::Refusal;
+use tasks::Task;
+use tasks::TaskNo;
+
+// The state after a run, and the longest response that was seen of each task.
+pub struct Watched {
+    pub state: State,
+    pub longest: [u32; 64],
+}
+
+// A tick's two sets, or why the bytes hold none.
+pub struct Asked {
+    pub answer: Answer,
+    pub finished: Tasks,
+    pub released: Tasks,
+}
+
+fn smaller(a: usize, b: usize) -> usize
+    ensures { λ r. ⌜ r ≡ min a b ⌝ }
+{
+    if a < b { a } else { b }
+}
+
+fn larger(a: u32, b: u32) -> u32
+    ensures { λ r. ⌜ r ≡ max a b ⌝ }
+{
+    if a < b { b } else { a }
+}
+
+fn no_tasks() -> Tasks
+    ensures { λ r. ⌜ r ≡ noTasks ⌝ }
+{
+    Tasks {
+        members: [TaskNo(0); 64],
+        count: 0,
+    }
+}
+
+// Rule 3: ended or never released, and in the first case of age p.
+fn may_be_released(task: Task, job: Job) -> bool
+    ensures { λ r. ⌜ r ≡ byPhase (job .phase) true false (eqb (job .age) (task .period)) ⌝ }
+{
+    let phase = job.phase;
+    match phase {
+        Phase::Never => true,
+        Phase::Active => false,
+        Phase::Ended => job.age == task.period,
+    }
+}
+
+// A set, with task i if it joins.
+fn joined(set: Tasks, i: usize, joins: bool) -> Tasks
+    requires { ⌜ (set .count < 64) × (i < 256) ⌝ }
+    ensures { λ r. ⌜ r ≡ cond joins (withTask set i) set ⌝ }
+{
+    if joins {
+        let n = set.count;
+        let mut more = set;
+        more.members[n] = TaskNo(i as u8);
+        more.count = n + 1;
+        return more;
+    }
+    set
+}
+
+// Every task that may be released in the next tick.
+pub fn all_allowed(plan: Plan, state: State) -> Tasks
+    ensures { λ r. ⌜ r ≡ allowedSet plan state ⌝ }
+{
+    let count = smaller(plan.count, 64);
+    let mut set = no_tasks();
+    let mut i = 0;
+    while i < count {
+        set = joined(set, i, may_be_released(plan.tasks[i], state.jobs[i]));
+        i += 1;
+    }
+    set
+}
+
+// A tick in which every task is released that may be, and none is finished.
+pub fn full_tick(plan: Plan, state: State) -> Ticked
+    ensures { λ r. ⌜ r ≡ fullTick plan state ⌝ }
+{
+    dispatch::tick(plan, state, no_tasks(), all_allowed(plan, state))
+}
+
+// Is it this task that runs?
+fn runs_here(i: usize, run: CoreRun) -> bool
+    ensures { λ r. ⌜ r ≡ names i (run .runner) ⌝ }
+{
+    let runner = run.runner;
+    match runner {
+        Runner::Idle => false,
+        Runner::Runs(task) => task.index() == i,
+    }
+}
+
+// Did task i run on one of the first cores?
+fn ran_in(cores: usize, runs: [CoreRun; 16], i: usize) -> bool
+    ensures { λ r. ⌜ r ≡ ranIn cores runs i ⌝ }
+{
+    let most = smaller(cores, 16);
+    let mut ran = false;
+    let mut x = 0;
+    while x < most {
+        ran = ran | runs_here(i, runs[x]);
+        x += 1;
+    }
+    ran
+}
+
+// A job's age if it ran, otherwise 0.
+fn age_if(ran: bool, job: Job) -> u32
+    ensures { λ r. ⌜ r ≡ cond ran (job .age) 0 ⌝ }
+{
+    if ran { job.age } else { 0 }
+}
+
+// One more tick, and what is seen in it.
+fn watch_tick(plan: Plan, watched: Watched) -> Watched
+    ensures { λ r. ⌜ r ≡ watchTick plan watched ⌝ }
+{
+    let before = watched.state;
+    let ticked = full_tick(plan, before);
+    let state = ticked.state;
+    let runs = ticked.runs;
+    let count = smaller(plan.count, 64);
+    let mut longest = [0u32; 64];
+    let mut i = 0;
+    while i < count {
+        let age = age_if(ran_in(plan.cores, runs, i), state.jobs[i]);
+        longest[i] = larger(watched.longest[i], age);
+        i += 1;
+    }
+    Watched { state, longest }
+}
+
+// So many ticks from a fresh state at full rate.
+pub fn watch(plan: Plan, ticks: usize) -> Watched
+    ensures { λ r. ⌜ r ≡ watched plan ticks ⌝ }
+{
+    let mut seen = Watched {
+        state: dispatch::fresh(),
+        longest: [0u32; 64],
+    };
+    let mut n = 0;
+    while n < ticks {
+        seen = watch_tick(plan, seen);
+        n += 1;
+    }
+    seen
+}
+
+// A byte as an index.
+fn wide(x: u8) -> usize
+    ensures { λ r. ⌜ (r ≡ x) × (r < 256) ⌝ }
+{
+    x as usize
+}
+
+// The n tasks whose numbers stand from a place on.
+fn tasks_at(bytes: &[u8], at: usize, n: usize) -> Tasks
+    requires { ⌜ (n ≤ 64) × (at + n ≤ length (now bytes)) ⌝ }
+    ensures { λ r. ⌜ r ≡ tasksAt (now (bytes .entry)) at n ⌝ }
+{
+    let mut members = [TaskNo(0); 64];
+    let mut k = 0;
+    while k < n {
+        members[k] = TaskNo(bytes[at + k]);
+        k += 1;
+    }
+    Tasks { members, count: n }
+}
+
+// How many bytes a request takes, as far as those at hand tell.
+pub fn request_size(bytes: &[u8]) -> usize
+    ensures { λ r. ⌜ (r ≡ requestSize (now (bytes .entry))) × (r ≤ 130) ⌝ }
+{
+    if bytes.len() <= 0 {
+        return 1;
+    }
+    let a = wide(bytes[0]);
+    if 64 < a {
+        return 1;
+    }
+    if bytes.len() <= 1 + a {
+        return 2 + a;
+    }
+    let b = wide(bytes[1 + a]);
+    if 64 < b {
+        return 2 + a;
+    }
+    2 + a + b
+}
+
+fn refused(refusal: Refusal) -> Asked
+    ensures { λ r. ⌜ r ≡ refusedRequest refusal ⌝ }
+{
+    Asked {
+        answer: Answer::Refused(refusal),
+        finished: no_tasks(),
+        released: no_tasks(),
+    }
+}
+
+// Reads a tick's request: any bytes at all, the first of which stands at `start` of the input.
+pub fn read_request(bytes: &[u8], start: Place) -> Asked
+    ensures { λ r. ⌜ r ≡ requestRead (now (bytes .entry)) start ⌝ }
+{
+    if bytes.len() <= 0 {
+        return refused(Refusal::CutShort(start));
+    }
+    let a = wide(bytes[0]);
+    if 64 < a {
+        return refused(Refusal::WrongLength(start));
+    }
+    if bytes.len() <= 1 + a {
+        return refused(Refusal::CutShort(start));
+    }
+    let b = wide(bytes[1 + a]);
+    if 64 < b {
+        return refused(Refusal::WrongLength(start));
+    }
+    if bytes.len() < 2 + a + b {
+        return refused(Refusal::CutShort(start));
+    }
+    Asked {
+        answer: Answer::Accepted,
+        finished: tasks_at(bytes, 1, a),
+        released: tasks_at(bytes, 2 + a, b),
+    }
+}
