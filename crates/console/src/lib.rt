@@ -1,0 +1,57 @@
+// Standard input and standard output of the programs: files that come in parts are read to their end, and texts are printed.
+// A read that fails counts as the end of the input.
+ghost use Prim.Native.Nat.{_≤_};
+use files::ReadPlan;
+use files::ReadTable;
+use files::Reader;
+use libc::STDIN_FILENO;
+use libc::STDOUT_FILENO;
+use lines::Text;
+
+// A reader after one more part, and whether the input may go on.
+struct Fed {
+    reader: Reader,
+    more: bool,
+}
+
+// Reads one part of the input, of up to 4,096 bytes.
+fn feed_some(reader: Reader) -> Fed {
+    let mut part = io::buffer();
+    let got = libc::read(STDIN_FILENO, &mut part);
+    let n = io::count(got, &part);
+    Fed {
+        reader: files::feed(reader, &part[..n]),
+        more: n > 0,
+    }
+}
+
+// Reads the input to its end. A proved loop has to end, and nothing says that an input does:
+// the loop counts its turns down, from a number that no run uses up.
+fn feed_all(reader: Reader) -> Reader {
+    let mut fed = Fed { reader, more: true };
+    let mut turns = u64::MAX;
+    while turns > 0 && fed.more {
+        fed = feed_some(fed.reader);
+        turns -= 1;
+    }
+    fed.reader
+}
+
+// The table file on standard input.
+pub fn read_table() -> ReadTable {
+    files::close_table(feed_all(files::start_table()))
+}
+
+// The plan file on standard input.
+pub fn read_plan() -> ReadPlan {
+    files::close_plan(feed_all(files::start_plan()))
+}
+
+// Prints a text.
+pub fn print(text: Text) {
+    let n = text.count;
+    let bytes = text.bytes;
+    if n <= 9216 {
+        io::write_all(STDOUT_FILENO, &bytes[..n]);
+    }
+}
