@@ -1,0 +1,33 @@
+use lib.Seq.{length-take-le}
+use mathlib.Core.Path.{sym}
+use borrow.Author.Needs.{needs}
+use Rattle.replay.proofs.plan_in.Statement.{statement}
+use Rattle.replay.proofs.plan_in.Tie as tie
+use Rattle.replay.proofs.plan_in.Reads as reads
+use Rattle.replay.proofs.plan_in.Lts as lts
+use Rattle.files.proofs.read_plan.Reads as read-plan-reads
+
+-- src/main.rt:116:9
+read-plan-requires : tie.Need-read-plan-requires
+read-plan-requires c κs = search needs
+
+-- src/main.rt:116:9
+returns : tie.Need-returns
+returns c = search needs
+
+-- src/main.rt:118:22
+slice-aggregate-read-plan : tie.Need-slice-aggregate-read-plan
+slice-aggregate-read-plan c = sym (length-take-le _ _ (search needs))
+
+-- src/main.rt:118:5
+read-plan-requires-2 : tie.Need-read-plan-requires-2
+read-plan-requires-2 c κs = search needs
+
+-- src/main.rt:114:1
+returns-2 : tie.Need-returns-2
+returns-2 c = search needs
+
+pub plan-in-spec : {M : Type 1} → statement M
+plan-in-spec =
+    tie.close
+    (tie.spec read-plan-requires returns slice-aggregate-read-plan read-plan-requires-2 returns-2)

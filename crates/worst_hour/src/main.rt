@@ -1,0 +1,60 @@
+// The worst hour: a slope table on four and on eight cores, planned and run at full rate for 100,000 ticks.
+// Prints each plan, the totals, and the longest response seen of each task beside its deadline.
+use tasks::Answer;
+use tasks::Table;
+use tasks::Task;
+
+fn task(cost: u32, deadline: u32, period: u32) -> Task {
+    Task {
+        cost,
+        deadline,
+        period,
+    }
+}
+
+// Two heavy jobs, the slope fit and the mask fit, come last: they are shared, and meet on core 1.
+fn four_cores() -> Table {
+    let mut tasks = [task(0, 0, 0); 64];
+    tasks[0] = task(12, 20, 20);
+    tasks[1] = task(11, 20, 20);
+    tasks[2] = task(14, 20, 20);
+    tasks[3] = task(12, 20, 20);
+    tasks[4] = task(13, 25, 25);
+    tasks[5] = task(11, 30, 30);
+    Table {
+        cores: 4,
+        count: 6,
+        tasks,
+    }
+}
+
+fn eight_cores() -> Table {
+    let four = four_cores();
+    let mut tasks = four.tasks;
+    tasks[4] = task(12, 20, 20);
+    tasks[5] = task(13, 20, 20);
+    tasks[6] = task(14, 20, 20);
+    tasks[7] = task(12, 20, 20);
+    tasks[8] = task(13, 25, 25);
+    tasks[9] = task(11, 30, 30);
+    Table {
+        cores: 8,
+        count: 10,
+        tasks,
+    }
+}
+
+fn show(table: Table) {
+    let planned = layout::plan_table(table);
+    console::print(lines::planned(planned));
+    let answer = planned.answer;
+    if let Answer::Accepted = answer {
+        let plan = planned.plan;
+        console::print(lines::watched(plan, runs::watch(plan, 100000)));
+    }
+}
+
+fn main() {
+    show(four_cores());
+    show(eight_cores());
+}
