@@ -43,8 +43,9 @@ pub struct Plan {
     pub pieces: [Piece; PIECES],
 }
 
-/// A refusal's number and the value that it tells, 0 if none.
+/// A refusal's number and the value that it tells, 0 if none; the checksums tell neither.
 #[derive(Clone, Copy)]
+#[allow(dead_code)]
 pub struct Refusal {
     pub number: u8,
     pub told: usize,
