@@ -1,6 +1,5 @@
 // Standard input and standard output of the programs: files that come in parts are read to their end, and texts are printed.
 // A read that fails counts as the end of the input.
-ghost use Prim.Native.Nat.{_≤_};
 use files::ReadPlan;
 use files::ReadTable;
 use files::Reader;
@@ -45,6 +44,14 @@ pub fn read_table() -> ReadTable {
 // The plan file on standard input.
 pub fn read_plan() -> ReadPlan {
     files::close_plan(feed_all(files::start_plan()))
+}
+
+// The first n bytes of a buffer, or all that it has, read as a plan file.
+pub fn plan_in(bytes: &[u8], n: usize) -> ReadPlan {
+    if bytes.len() < n {
+        return files::read_plan(bytes);
+    }
+    files::read_plan(&bytes[..n])
 }
 
 // Prints a text.

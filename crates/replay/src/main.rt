@@ -3,7 +3,6 @@ ghost use Prim.Native.Nat.{_≤_, _<_};
 ghost use lib.ListN.{length};
 ghost use Rattle.io.specs.Counts.{Counts};
 use dispatch::State;
-use files::ReadPlan;
 use libc::STDIN_FILENO;
 use plans::Plan;
 use tasks::Answer;
@@ -110,14 +109,6 @@ fn fill(bytes: &mut [u8], n: usize) -> bool {
     io::read_full(STDIN_FILENO, &mut bytes[..n]) == n
 }
 
-// The first n bytes, read as a plan file.
-fn plan_in(bytes: &[u8], n: usize) -> ReadPlan {
-    if bytes.len() < n {
-        return files::read_plan(bytes);
-    }
-    files::read_plan(&bytes[..n])
-}
-
 fn main() {
     let mut head = [0u8; 2];
     let mut file = io::large_buffer();
@@ -128,7 +119,7 @@ fn main() {
         console::print(lines::refused(Refusal::CutShort(Place(0))));
         return;
     }
-    let read = plan_in(&file, length);
+    let read = console::plan_in(&file, length);
     let answer = read.answer;
     match answer {
         Answer::Accepted => replay(read.plan, 2 + length),

@@ -1,10 +1,10 @@
 use lib.Seq.{length-take-le}
 use mathlib.Core.Path.{sym}
 use borrow.Author.Needs.{needs}
-use Rattle.replay.proofs.plan_in.Statement.{statement}
-use Rattle.replay.proofs.plan_in.Tie as tie
-use Rattle.replay.proofs.plan_in.Reads as reads
-use Rattle.replay.proofs.plan_in.Lts as lts
+use Rattle.console.proofs.plan_in.Statement.{statement}
+use Rattle.console.proofs.plan_in.Tie as tie
+use Rattle.console.proofs.plan_in.Reads as reads
+use Rattle.console.proofs.plan_in.Lts as lts
 use Rattle.files.proofs.read_plan.Reads as read-plan-reads
 
 -- src/main.rt:116:9

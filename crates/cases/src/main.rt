@@ -1,0 +1,264 @@
+// The cases of document 01 that are not proved as examples: each prints what comes of it, and the gate compares.
+use dispatch::Job;
+use dispatch::Phase;
+use dispatch::State;
+use dispatch::Tasks;
+use files::InForce;
+use files::ReadTable;
+use files::Written;
+use libc::STDOUT_FILENO;
+use plans::Bounding;
+use plans::Kind;
+use plans::Piece;
+use plans::Plan;
+use tasks::Answer;
+use tasks::CoreNo;
+use tasks::Table;
+use tasks::Task;
+use tasks::TaskNo;
+
+fn say(words: &[u8]) {
+    io::write_all(STDOUT_FILENO, words);
+}
+
+fn say_answer(answer: Answer) {
+    match answer {
+        Answer::Accepted => say(b"accepted\n"),
+        Answer::Refused(refusal) => console::print(lines::refused(refusal)),
+    }
+}
+
+fn say_read(read: ReadTable) {
+    let answer = read.answer;
+    say_answer(answer);
+}
+
+fn say_written(written: Written) {
+    match written {
+        Written::Length(length) => {
+            io::print_decimal(STDOUT_FILENO, length as u64);
+            say(b" bytes\n");
+        }
+        Written::Refused(refusal) => console::print(lines::refused(refusal)),
+    }
+}
+
+fn wide(x: u8) -> u64 {
+    x as u64
+}
+
+// The bytes of a buffer, two hexadecimal digits each.
+fn say_bytes(bytes: &[u8]) {
+    let mut i = 0;
+    while i < bytes.len() {
+        io::print_hex(STDOUT_FILENO, wide(bytes[i]), 2);
+        say(b" ");
+        i += 1;
+    }
+    say(b"\n");
+}
+
+// A table for two cores with so many tasks (6,10,p).
+fn table(count: usize, period: u32) -> Table {
+    let task = Task {
+        cost: 6,
+        deadline: 10,
+        period,
+    };
+    Table {
+        cores: 2,
+        count,
+        tasks: [task; 64],
+    }
+}
+
+// Period 1,000,000 is taken, 1,000,001 refused: in a record and in a file.
+fn periods() {
+    say(b"period 1000000: ");
+    say_answer(tasks::check_table(table(1, 1000000)));
+    say(b"period 1000001: ");
+    say_answer(tasks::check_table(table(1, 1000001)));
+    say(b"period 1000000 in a file: ");
+    say_read(files::read_table(&[2, 0, 12, 0, 0, 0, 6, 0, 0, 0, 10, 0, 15, 66, 64]));
+    say(b"period 1000001 in a file: ");
+    say_read(files::read_table(&[2, 0, 12, 0, 0, 0, 6, 0, 0, 0, 10, 0, 15, 66, 65]));
+}
+
+// A file of so many tasks, fed field by field.
+fn fed(count: usize) -> ReadTable {
+    let mut reader = files::start_table();
+    let mut i = 0;
+    while i < count {
+        reader = files::feed(reader, &[2, 0, 12, 0, 0, 0, 6, 0, 0, 0, 10, 0, 0, 0, 10]);
+        i += 1;
+    }
+    files::close_table(reader)
+}
+
+// 64 tasks are read, 65 not.
+fn counts() {
+    say(b"64 tasks: ");
+    say_read(fed(64));
+    say(b"65 tasks: ");
+    say_read(fed(65));
+    say(b"no task: ");
+    say_read(fed(0));
+}
+
+// If the core count is absent, it is 4.
+fn cores() {
+    say(b"no core count: ");
+    console::print(lines::lister(fed(1)));
+}
+
+// A table file for two cores and one task is 19 bytes, and the byte past them stays as it was.
+fn writing() {
+    say(b"a table file: ");
+    let mut long = [7u8; 20];
+    let written = files::write_table(table(1, 10), &mut long);
+    say_written(written);
+    say_bytes(&long);
+    say(b"a buffer one byte short: ");
+    let mut short = [7u8; 18];
+    let refused = files::write_table(table(1, 10), &mut short);
+    say_written(refused);
+    say_bytes(&short);
+}
+
+// What is written is read back: the listing of the plan that the file holds.
+fn reading_back(plan: Plan) {
+    say(b"a plan file: ");
+    let mut file = io::buffer();
+    let written = files::write_plan(plan, &mut file);
+    say_written(written);
+    if let Written::Length(length) = written {
+        console::print(lines::runner(console::plan_in(&file, length)));
+    }
+}
+
+// The table in force: how many bytes of task fields, and whose they are or why there are none.
+fn in_force<'a>(own: &'a [u8], shipped: &'a [u8]) {
+    let part = files::table_in_force(own, shipped);
+    io::print_decimal(STDOUT_FILENO, part.len() as u64);
+    say(b" bytes of task fields, ");
+    match files::which_in_force(own, shipped) {
+        InForce::Own => say(b"the machine's own\n"),
+        InForce::Shipped => say(b"the shipped ones\n"),
+        InForce::Neither(refusal) => console::print(lines::refused(refusal)),
+    }
+}
+
+fn forces() {
+    let good = [1u8, 0, 1, 2, 2, 0, 12, 0, 0, 0, 6, 0, 0, 0, 10, 0, 0, 0, 10];
+    let bare = [2u8, 0, 12, 0, 0, 0, 6, 0, 0, 0, 10, 0, 0, 0, 10];
+    let bad = [1u8, 0, 1];
+    say(b"both good: ");
+    in_force(&bare, &good);
+    say(b"the machine's own good: ");
+    in_force(&good, &bad);
+    say(b"the shipped one good: ");
+    in_force(&bad, &good);
+    say(b"both bad: ");
+    in_force(&bad, &bad);
+}
+
+// A plan made by hand that misses deadlines: two tasks (10,10,10) on one core, the first whole.
+fn by_hand(second: Kind) -> Plan {
+    let task = Task {
+        cost: 10,
+        deadline: 10,
+        period: 10,
+    };
+    let first = Piece {
+        task: TaskNo(0),
+        core: CoreNo(0),
+        kind: Kind::Whole,
+        cost: 10,
+    };
+    let mut pieces = [first; 128];
+    pieces[1] = Piece {
+        task: TaskNo(1),
+        core: CoreNo(0),
+        kind: second,
+        cost: 10,
+    };
+    Plan {
+        cores: 1,
+        count: 2,
+        tasks: [task; 64],
+        placed: 2,
+        pieces,
+    }
+}
+
+fn none() -> Tasks {
+    Tasks {
+        members: [TaskNo(0); 64],
+        count: 0,
+    }
+}
+
+fn only(task: u8) -> Tasks {
+    Tasks {
+        members: [TaskNo(task); 64],
+        count: 1,
+    }
+}
+
+// One tick from a state.
+fn tick(plan: Plan, state: State, finished: Tasks, released: Tasks) {
+    console::print(lines::ticked(plan.cores, dispatch::tick(plan, state, finished, released)));
+}
+
+// What a tick is refused with.
+fn ticks(plan: Plan) {
+    let fresh = dispatch::fresh();
+    say(b"a finish of a task not run: ");
+    tick(plan, fresh, only(1), none());
+    say(b"a release of no such task: ");
+    tick(plan, fresh, none(), only(2));
+    let first = runs::watch(plan, 1);
+    say(b"a release at age below p: ");
+    tick(plan, first.state, none(), only(0));
+    say(b"a release at age p while active: ");
+    let tenth = runs::watch(plan, 10);
+    tick(plan, tenth.state, none(), only(1));
+    say(b"a finish and a release in one tick: ");
+    tick(plan, tenth.state, only(0), only(0));
+    say(b"a task never released of age 1: ");
+    let mut aged = fresh;
+    aged.jobs[0] = Job {
+        phase: Phase::Never,
+        late: false,
+        piece: 0,
+        age: 1,
+        ran: 0,
+    };
+    tick(plan, aged, none(), none());
+    say(b"after 40 ticks at full rate: ");
+    let seen = runs::watch(plan, 40);
+    console::print(lines::totals(seen.state));
+}
+
+// The bound asked from outside.
+fn bounds(plan: Plan) {
+    say(b"the bound of a piece past the list: ");
+    if let Bounding::Refused(refusal) = plans::ask_bound(plan, 2) {
+        console::print(lines::refused(refusal));
+    }
+}
+
+fn main() {
+    periods();
+    counts();
+    cores();
+    writing();
+    let planned = layout::plan_table(table(3, 10));
+    reading_back(planned.plan);
+    forces();
+    let hand = by_hand(Kind::Whole);
+    ticks(hand);
+    bounds(hand);
+    say(b"a share that is a task's only piece: ");
+    say_answer(plans::check_plan(by_hand(Kind::Share)));
+}
