@@ -1,1 +1,5 @@
 pub mod Walk
+pub mod Begun
+pub mod SameBounds
+pub mod Placed
+pub mod Summed

@@ -38,7 +38,7 @@ module _ (pc qc : ℕ → Piece) (n : ℕ) (same : (j : ℕ) → j < n → pc j 
   order-same zero l = rw (same 0 l)
   order-same (suc j) l = rw (same j (omega arith), same (suc j) l)
 
-  costs-same : (i j : ℕ) → j ≤ n → costs pc i j ≡ costs qc i j
+  pub costs-same : (i j : ℕ) → j ≤ n → costs pc i j ≡ costs qc i j
   unfolding costs
   costs-same i j l = sum-same j _ _ (λ k b. ap (λ (z : Piece). cond (eqb (z .task .0) i) (z .cost) 0) (same k (omega arith)))
 

@@ -96,8 +96,8 @@ fn cost_of(z: Piece, i: usize) -> u32
     if z.task.index() == i { z.cost } else { 0 }
 }
 
-// The costs of the same task's earlier pieces.
-fn earlier(plan: Plan, q: usize) -> u32
+// The costs of the same task's earlier pieces. For sister crates: it asks that the plan's numbers are a good table's.
+pub fn earlier(plan: Plan, q: usize) -> u32
     requires { ⌜ (q < plan .placed) × Moderate plan ⌝ }
     ensures { λ r. ⌜ r ≡ pieces.earlier (pieceOf plan) q ⌝ }
 {
@@ -112,8 +112,8 @@ fn earlier(plan: Plan, q: usize) -> u32
     spent
 }
 
-// The interference in length l of piece z, of task t, on piece b: 0 unless z is on b's core and ranked above it.
-fn pressure(z: Piece, t: Task, b: Piece, b_deadline: u32, l: u32) -> u32
+// The interference in length l of piece z, of task t, on piece b: 0 unless z is on b's core and ranked above it. For sister crates: it asks for a good task's numbers.
+pub fn pressure(z: Piece, t: Task, b: Piece, b_deadline: u32, l: u32) -> u32
     requires { ⌜ (0 < t .period) × (z .cost ≤ t .period) × (t .period ≤ 1000000) × (l ≤ 1000000) ⌝ }
     ensures { λ r. ⌜ r ≡ cond (eqb (z .core .0) (b .core .0) && rank.outranks (z .kind) (t .deadline) (z .task .0) (b .kind) «b_deadline» (b .task .0)) (interference (z .cost) (t .period) l) 0 ⌝ }
 {

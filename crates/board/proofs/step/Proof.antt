@@ -156,16 +156,16 @@ module _ {M : Type 1} (𝓤 : URA M) (H : Heap 𝓤) (A : Atoms 𝓤) (W : Given
         assigns ! (of-opd ! (load ! (from ! (hop ! (look ! 17 refl) (stop !))) (look-raw ! 0 refl))) (from ! (stop !)) (init ! 9 refl (LL.lawful S.the-type S′.the-laws 𝓤 H A W .typed h _ is-h .0)) $
         use0 W (raw (Tick 𝓤 H A at-mem run .pre to-tick)) (goes-tick is-h) $
         calls-at ! fm (Tick 𝓤 H A at-mem run) known-t to-tick (and-then ! (load ! (from ! (stop !)) (look ! 16 refl)) (and-then ! (load ! (from ! (stop !)) (look ! 10 refl)) (and-then ! (load ! (from ! (stop !)) (look ! 14 refl)) (and-then ! (load ! (from ! (stop !)) (look ! 12 refl)) (no-more !))))) (λ v.
-        answers ! tt tick.ended (tick.clauses 𝓤 H A at-mem run) tt (p, (h, (fs, (rs, tt)))) tt (‵ ftrue) (λ (t : Ticked). t ≡ ticked p h fs rs) (λ t e. id⊢ 𝓤 _) v (λ t is-ticked is-t. drop ! $
+        answers ! tt tick.ended (tick.clauses 𝓤 H A at-mem run) tt (p, (h, (fs, (rs, tt)))) tt (‵ ftrue) (λ (t : Ticked). t ≡ ticked p h fs rs) (λ t ws. id⊢ 𝓤 _) v (λ t is-ticked is-t. drop ! $
         land ! (from ! (stop !)) (init ! 7 refl (LL.lawful K.the-type K′.the-laws 𝓤 H A W .typed t _ is-t .0)) $
         use0 W (raw (NextOf 𝓤 H A at-mem run .pre (to-next t v))) (goes-next t v is-t) $
         calls-at ! fm (NextOf 𝓤 H A at-mem run) known-n (to-next t v) (and-then ! (load ! (from ! (stop !)) (look ! 8 refl)) (no-more !)) (λ w.
-        answers ! tt next-of.ended (next-of.clauses 𝓤 H A at-mem run) tt (t, tt) tt (‵ ftrue) (λ (s : State). s ≡ t .state) (λ s e. id⊢ 𝓤 _) w (λ s is-next is-s. drop ! $
+        answers ! tt next-of.ended (next-of.clauses 𝓤 H A at-mem run) tt (t, tt) tt (‵ ftrue) (λ (s : State). s ≡ t .state) (λ s ws. id⊢ 𝓤 _) w (λ s is-next is-s. drop ! $
         land ! (from ! (stop !)) (init ! 5 refl (LL.lawful S.the-type S′.the-laws 𝓤 H A W .typed s _ is-s .0)) $
         assigns ! (of-opd ! (load ! (from ! (stop !)) (look ! 5 refl))) (from ! (hop ! (look ! 17 refl) (stop !))) (store-raw ! 0 refl (LL.lawful S.the-type S′.the-laws 𝓤 H A W .typed s _ is-s .0)) $
         use0 W (raw (RanOf 𝓤 H A at-mem run .pre (to-ran t v))) (goes-ran t v is-t) $
         calls-at ! fm (RanOf 𝓤 H A at-mem run) known-r (to-ran t v) (and-then ! (load ! (from ! (stop !)) (look ! 8 refl)) (no-more !)) (λ u.
-        answers ! tt ran-of.ended (ran-of.clauses 𝓤 H A at-mem run) tt (t, tt) tt (‵ ftrue) (λ (r : Ran). r ≡ ranOf t) (λ r e. id⊢ 𝓤 _) u (λ r is-ran is-r. drop ! $
+        answers ! tt ran-of.ended (ran-of.clauses 𝓤 H A at-mem run) tt (t, tt) tt (‵ ftrue) (λ (r : Ran). r ≡ ranOf t) (λ r ws. id⊢ 𝓤 _) u (λ r is-ran is-r. drop ! $
         land ! (from ! (stop !)) (init ! 19 refl (LL.lawful R.the-type R′.the-laws 𝓤 H A W .typed r _ is-r .0)) $
         move ! (1 ∷ []) $ drop ! $ owned ! S.the-row (Is S.the-row) (LL.makes S.the-type S′.the-plain 𝓤 H A) s _ is-s $ move ! (1 ∷ 0 ∷ []) $ closes ! tt S.the-row s (w ∷ []) b o $
         -- [obs; the borrow; the token; _7; …; _0; …]

@@ -1,0 +1,17 @@
+use borrow.Author.Needs.{needs}
+use Rattle.board.proofs.unplaced.Statement.{statement}
+use Rattle.board.proofs.unplaced.Tie as tie
+use Rattle.board.proofs.unplaced.Reads as reads
+use Rattle.board.proofs.unplaced.Lts as lts
+use Rattle.board.proofs.no_piece.Reads as no-piece-reads
+
+-- src/lib.rt:83:9
+no-piece-requires : tie.Need-no-piece-requires
+no-piece-requires c κs = search needs
+
+-- src/lib.rt:79:1
+returns : tie.Need-returns
+returns c = simp (c .no-piece .ensures)
+
+pub unplaced-spec : {M : Type 1} → statement M
+unplaced-spec = tie.close (tie.spec no-piece-requires returns)
