@@ -1,4 +1,5 @@
 pub mod Walk
+pub mod Stepped
 pub mod Begun
 pub mod SameBounds
 pub mod Placed

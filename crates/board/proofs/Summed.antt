@@ -2,7 +2,7 @@
 use mathlib.Core.Path.{_≡_, refl, sym, _∙_, ap}
 use mathlib.Core.List.{List}
 use mathlib.Core.Bool.{Bool, true, false}
-use Prim.Native.Nat.{ℕ, zero, suc, _+_, _*_, _≤_, _<_}
+use Prim.Native.Nat.{ℕ, zero, suc, _+_, _≤_, _<_}
 use native.Mathlib.Nat.{le-refl}
 use native.Mathlib.Omega.{arith}
 use lib.Dec.{ltb}
@@ -10,7 +10,6 @@ use lib.ListN.{length}
 use Rattle.tasks.specs.Below.{sum}
 use Rattle.tasks.specs.declared.Answer.{Answer}
 use Rattle.tasks.specs.declared.Answer.the-variants.{Accepted, Refused}
-use Rattle.tasks.specs.declared.Refusal.{Refusal}
 use Rattle.tasks.specs.declared.Table.{Table}
 use Rattle.plans.specs.Asking.{unlessRefused, boundAsked}
 use Rattle.plans.specs.Bound.{localDeadline, load, bound, margin}

@@ -1,6 +1,6 @@
 -- `board::lent_piece` meets its contract: a walk of its MIR, by hand. The shared slice is looked into, the element is taken out, copied whole, and put back.
 -- Assumes nothing.
-use mathlib.Core.Path.{_≡_, refl, sym}
+use mathlib.Core.Path.{refl, sym}
 use Prim.Native.Nat.{ℕ, _<_, _^_}
 use mathlib.Core.List.{[], _∷_, List}
 use lib.ListN.{length}

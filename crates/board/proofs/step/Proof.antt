@@ -26,7 +26,6 @@ use denote.Ref.{RefT, MutRef, ptr-vals, mut-tells}
 use denote.Signature.{plain}
 use denote.Steps.{opens, closes, owned, peeks, nothing}
 use denote.Struct.Steps.{spelt}
-use denote.Struct.Laws as LL
 use denote.Triple.Statement.{Contract, Triple}
 use denote.Triple.Call.{calls-at}
 use denote.Triple.Entry.{Vals, onEntry}
@@ -41,16 +40,6 @@ use Rattle.dispatch.specs.declared.Ticked.{Ticked}
 use Rattle.plans.specs.declared.Plan.{Plan}
 use Rattle.board.specs.Ran.{ranOf}
 use Rattle.board.specs.declared.Ran.{Ran}
-use Rattle.dispatch.proofs.State as S
-use Rattle.dispatch.proofs.State.Laws as S′
-use Rattle.dispatch.proofs.Tasks as U
-use Rattle.dispatch.proofs.Tasks.Laws as U′
-use Rattle.dispatch.proofs.Ticked as K
-use Rattle.dispatch.proofs.Ticked.Laws as K′
-use Rattle.plans.proofs.Plan as P
-use Rattle.plans.proofs.Plan.Laws as P′
-use Rattle.board.proofs.Ran as R
-use Rattle.board.proofs.Ran.Laws as R′
 use Rattle.dispatch.proofs.tick as tick
 use Rattle.dispatch.proofs.tick.Symbol as tick-def
 use Rattle.dispatch.proofs.tick.Symbol.{name as #dispatch·tick}
@@ -63,24 +52,24 @@ use Rattle.board.proofs.ran_of as ran-of
 use Rattle.board.proofs.ran_of.Symbol as ran-of-def
 use Rattle.board.proofs.ran_of.Symbol.{name as #board·ran-of}
 use Rattle.board.proofs.ran_of.Met as ran-of-thm
-use Rattle.board.proofs.Walk.{passes, answers}
+use Rattle.board.proofs.Walk.{plans, states, sets, ticks, rans, passes, answers}
 use Rattle.board.proofs.step.Key.{name as #board·step}
 use Rattle.board.proofs.step as step
 use Rattle.board.proofs.step.Statement as stated
 use Rattle.board.proofs.step.Code as code
 
 abbrev stayed : Stays (step.ended .signature .params) (step.ended .kept)
-stayed = (stay-ref (0 ∷ []) tt (plain (λ _. S.the-row)), (stay-none (λ _. P.the-row) yes, (stay-none (λ _. U.the-row) yes, (stay-none (λ _. U.the-row) yes, tt))))
+stayed = (stay-ref (0 ∷ []) tt (plain (λ _. states .row)), (stay-none (λ _. plans .row) yes, (stay-none (λ _. sets .row) yes, (stay-none (λ _. sets .row) yes, tt))))
 
 -- the machine values of a state, a plan and a set of tasks
 abbrev sv : State → Val
-sv = LL.val S.the-type S′.the-laws
+sv = states .val
 
 abbrev pv : Plan → Val
-pv = LL.val P.the-type P′.the-laws
+pv = plans .val
 
 abbrev uv : Tasks → Val
-uv = LL.val U.the-type U′.the-laws
+uv = sets .val
 
 -- the contracts that the proof cites
 module _ {M : Type 1} (𝓤 : URA M) (H : Heap 𝓤) (A : Atoms 𝓤) (mem : Memory → SProp 𝓤) (run : Routine → Fun 𝓤) where
@@ -94,7 +83,7 @@ module _ {M : Type 1} (𝓤 : URA M) (H : Heap 𝓤) (A : Atoms 𝓤) (mem : Mem
   RanOf = tripleOf 𝓤 H A ran-of.signature (ran-of.spec 𝓤 H A mem run)
 
 module _ {M : Type 1} (𝓤 : URA M) (H : Heap 𝓤) (A : Atoms 𝓤) (W : Given 𝓤 H A) (at-mem : Memory → SProp 𝓤) (run : Routine → Fun 𝓤) (κ : Lft) (q : Share) (b o : ℕ) (γ : GName)
-    (h : State) (p : Plan) (fs rs : Tasks) (is-p : Is P.the-row p (pv p ∷ [])) (is-fs : Is U.the-row fs (uv fs ∷ [])) (is-rs : Is U.the-row rs (uv rs ∷ [])) where
+    (h : State) (p : Plan) (fs rs : Tasks) (is-p : Is (plans .row) p (pv p ∷ [])) (is-fs : Is (sets .row) fs (uv fs ∷ [])) (is-rs : Is (sets .row) rs (uv rs ∷ [])) where
   abbrev Arg : Type 0
   Arg = RefT State × (Plan × (Tasks × (Tasks × Unit {0})))
 
@@ -107,16 +96,16 @@ module _ {M : Type 1} (𝓤 : URA M) (H : Heap 𝓤) (A : Atoms 𝓤) (W : Given
   abbrev Post : Val → SProp 𝓤
   Post = walkOf 𝓤 H A step.ended stayed (step.clauses 𝓤 H A at-mem run) .post (((κ, tt), (q, tt), tt, x, at), tt)
 
-  exits : (s : State) (r : Ran) (u : Val) → Is R.the-row r (u ∷ []) → (r ≡ ranOf (ticked p h fs rs)) × (s ≡ ticked p h fs rs .state)
-      → ent 𝓤 (sep 𝓤 (A .obs γ (S.the-row .coded .code s)) (sep 𝓤 (A .bor κ (Body (mem S.the-row) b o γ)) (A .lft κ q))) (Post u)
+  exits : (s : State) (r : Ran) (u : Val) → Is (rans .row) r (u ∷ []) → (r ≡ ranOf (ticked p h fs rs)) × (s ≡ ticked p h fs rs .state)
+      → ent 𝓤 (sep 𝓤 (A .obs γ (states .row .coded .code s)) (sep 𝓤 (A .bor κ (Body (mem (states .row)) b o γ)) (A .lft κ q))) (Post u)
   exits s r u is-r e =
-      qed W (‵ (fobs γ (S.the-row .coded .code s)) ∷ ‵ (fbor κ (Body (mem S.the-row) b o γ)) ∷ ‵ (flft κ q) ∷ []) ∵
+      qed W (‵ (fobs γ (states .row .coded .code s)) ∷ ‵ (fbor κ (Body (mem (states .row)) b o γ)) ∷ ‵ (flft κ q) ∷ []) ∵
       suffices ! _ (ends-at 𝓤 H A step.ended stayed (step.clauses 𝓤 H A at-mem run) W (((κ, tt), (q, tt), tt, x, at), tt) u r (s, (tt, (tt, (tt, tt)))) (tt, (tt, (tt, (tt, tt))))) $ says ! e $ nothing ! $ move ! (3 ∷ 0 ∷ []) $ join ! $
       frame ! $ feqI ! (List Val) (vptr b o ∷ []) (vptr b o ∷ []) refl $ fjoin3 ! $ nothing ! $
-      owned ! U.the-row (Is U.the-row) (LL.makes U.the-type U′.the-plain 𝓤 H A) rs _ is-rs $ fjoin ! $
-      owned ! U.the-row (Is U.the-row) (LL.makes U.the-type U′.the-plain 𝓤 H A) fs _ is-fs $ fjoin ! $
-      owned ! P.the-row (Is P.the-row) (LL.makes P.the-type P′.the-plain 𝓤 H A) p _ is-p $ fjoin ! $ move ! (1 ∷ 0 ∷ []) $ fjoin ! $
-      owned ! R.the-row (Is R.the-row) (LL.makes R.the-type R′.the-plain 𝓤 H A) r _ is-r $ move ! (1 ∷ 0 ∷ []) $ done !
+      owned ! (sets .row) (Is (sets .row)) (sets .makes 𝓤 H A) rs _ is-rs $ fjoin ! $
+      owned ! (sets .row) (Is (sets .row)) (sets .makes 𝓤 H A) fs _ is-fs $ fjoin ! $
+      owned ! (plans .row) (Is (plans .row)) (plans .makes 𝓤 H A) p _ is-p $ fjoin ! $ move ! (1 ∷ 0 ∷ []) $ fjoin ! $
+      owned ! (rans .row) (Is (rans .row)) (rans .makes 𝓤 H A) r _ is-r $ move ! (1 ∷ 0 ∷ []) $ done !
 
   -- what each callee's triple binds outside
   abbrev to-tick : Tick 𝓤 H A at-mem run .Ghost
@@ -128,46 +117,46 @@ module _ {M : Type 1} (𝓤 : URA M) (H : Heap 𝓤) (A : Atoms 𝓤) (W : Given
   abbrev to-ran : Ticked → Val → RanOf 𝓤 H A at-mem run .Ghost
   to-ran t v = ((tt, tt, tt, (t, tt), (v ∷ [], tt)), tt)
 
-  goes-tick : Is S.the-row h (sv h ∷ []) → ent 𝓤 (emp 𝓤) (Tick 𝓤 H A at-mem run .pre to-tick)
+  goes-tick : Is (states .row) h (sv h ∷ []) → ent 𝓤 (emp 𝓤) (Tick 𝓤 H A at-mem run .pre to-tick)
   goes-tick is-h =
-      passes 𝓤 H A (P.the-row ∷ S.the-row ∷ U.the-row ∷ U.the-row ∷ [])
-      (LL.makes P.the-type P′.the-plain 𝓤 H A, (LL.makes S.the-type S′.the-plain 𝓤 H A, (LL.makes U.the-type U′.the-plain 𝓤 H A, (LL.makes U.the-type U′.the-plain 𝓤 H A, tt))))
+      passes 𝓤 H A (plans .row ∷ states .row ∷ sets .row ∷ sets .row ∷ [])
+      (plans .makes 𝓤 H A, (states .makes 𝓤 H A, (sets .makes 𝓤 H A, (sets .makes 𝓤 H A, tt))))
       (p, (h, (fs, (rs, tt)))) (pv p ∷ [], (sv h ∷ [], (uv fs ∷ [], (uv rs ∷ [], tt)))) (is-p, (is-h, (is-fs, (is-rs, tt)))) (emp 𝓤) (id⊢ 𝓤 (emp 𝓤))
 
-  goes-next : (t : Ticked) (v : Val) → Is K.the-row t (v ∷ []) → ent 𝓤 (emp 𝓤) (NextOf 𝓤 H A at-mem run .pre (to-next t v))
-  goes-next t v is-t = passes 𝓤 H A (K.the-row ∷ []) (LL.makes K.the-type K′.the-plain 𝓤 H A, tt) (t, tt) (v ∷ [], tt) (is-t, tt) (emp 𝓤) (id⊢ 𝓤 (emp 𝓤))
+  goes-next : (t : Ticked) (v : Val) → Is (ticks .row) t (v ∷ []) → ent 𝓤 (emp 𝓤) (NextOf 𝓤 H A at-mem run .pre (to-next t v))
+  goes-next t v is-t = passes 𝓤 H A (ticks .row ∷ []) (ticks .makes 𝓤 H A, tt) (t, tt) (v ∷ [], tt) (is-t, tt) (emp 𝓤) (id⊢ 𝓤 (emp 𝓤))
 
-  goes-ran : (t : Ticked) (v : Val) → Is K.the-row t (v ∷ []) → ent 𝓤 (emp 𝓤) (RanOf 𝓤 H A at-mem run .pre (to-ran t v))
-  goes-ran t v is-t = passes 𝓤 H A (K.the-row ∷ []) (LL.makes K.the-type K′.the-plain 𝓤 H A, tt) (t, tt) (v ∷ [], tt) (is-t, tt) (emp 𝓤) (id⊢ 𝓤 (emp 𝓤))
+  goes-ran : (t : Ticked) (v : Val) → Is (ticks .row) t (v ∷ []) → ent 𝓤 (emp 𝓤) (RanOf 𝓤 H A at-mem run .pre (to-ran t v))
+  goes-ran t v is-t = passes 𝓤 H A (ticks .row ∷ []) (ticks .makes 𝓤 H A, tt) (t, tt) (v ∷ [], tt) (is-t, tt) (emp 𝓤) (id⊢ 𝓤 (emp 𝓤))
 
   module _ (C : Calls 𝓤 H) (Λ : Loops 𝓤 H) (fm : FmC 𝓤 H (W .laws) C) (known-t : Triple 𝓤 (C #dispatch·tick) (Tick 𝓤 H A at-mem run))
       (known-n : Triple 𝓤 (C #board·next-of) (NextOf 𝓤 H A at-mem run)) (known-r : Triple 𝓤 (C #board·ran-of) (RanOf 𝓤 H A at-mem run)) where
     walk : ent 𝓤 (onEntry 𝓤 H A step.signature (κ, tt) (q, tt) x at) (WpFn 𝓤 H C Λ code.function (vptr b o ∷ pv p ∷ uv fs ∷ uv rs ∷ []) Post)
     walk =
-        qed W ((‵ (flft κ q) ⊛ ‵ ftrue) ∷ ‵ (owns (MutRef (named 0) κ S.the-row ∷ P.the-row ∷ U.the-row ∷ U.the-row ∷ []) x at) ∷ []) ∵ split ! $ move ! (2 ∷ []) $ fsplit ! $ fsplit3 ! $ drop ! $ move ! (0 ∷ 1 ∷ 3 ∷ []) $
+        qed W ((‵ (flft κ q) ⊛ ‵ ftrue) ∷ ‵ (owns (MutRef (named 0) κ (states .row) ∷ plans .row ∷ sets .row ∷ sets .row ∷ []) x at) ∷ []) ∵ split ! $ move ! (2 ∷ []) $ fsplit ! $ fsplit3 ! $ drop ! $ move ! (0 ∷ 1 ∷ 3 ∷ []) $
         -- [obs; the borrow; the token; what the plain parameters own; true]
         enter ! C Λ code.function (vptr b o ∷ pv p ∷ uv fs ∷ uv rs ∷ []) _ $
         alloc1 ! (λ l₀. alloc1 ! (λ l₁. alloc1 ! (λ l₂. alloc1 ! (λ l₃. alloc1 ! (λ l₄. alloc1 ! (λ l₅. alloc1 ! (λ l₆. alloc1 ! (λ l₇. alloc0 ! $ params1 ! $
-        pass1 ! (init ! 12 refl (tt, tt)) $ pass1 ! (init ! 10 refl (LL.lawful P.the-type P′.the-laws 𝓤 H A W .typed p _ is-p .0)) $
-        pass1 ! (init ! 8 refl (LL.lawful U.the-type U′.the-laws 𝓤 H A W .typed fs _ is-fs .0)) $ pass1 ! (init ! 6 refl (LL.lawful U.the-type U′.the-laws 𝓤 H A W .typed rs _ is-rs .0)) $ pass0 ! $
-        move ! (16 ∷ 17 ∷ 18 ∷ []) $ opens ! tt S.the-row {h = h} b o (λ vs. spelt ! S.the-row (Is S.the-row) (shows 𝓤 H A S.the-row) (LL.vals S.the-type S′.the-laws) (LL.tells S.the-type S′.the-laws) fullShare h vs b o $
-        move ! (1 ∷ []) $ peeks ! S.the-row (Is S.the-row) (shows 𝓤 H A S.the-row) h (sv h ∷ []) (λ is-h. move ! (1 ∷ 0 ∷ []) $
+        pass1 ! (init ! 12 refl (tt, tt)) $ pass1 ! (init ! 10 refl (plans .typed 𝓤 H A W p _ is-p .0)) $
+        pass1 ! (init ! 8 refl (sets .typed 𝓤 H A W fs _ is-fs .0)) $ pass1 ! (init ! 6 refl (sets .typed 𝓤 H A W rs _ is-rs .0)) $ pass0 ! $
+        move ! (16 ∷ 17 ∷ 18 ∷ []) $ opens ! tt (states .row) {h = h} b o (λ vs. spelt ! (states .row) (Is (states .row)) (shows 𝓤 H A (states .row)) (λ x. states .val x ∷ []) (states .tells) fullShare h vs b o $
+        move ! (1 ∷ []) $ peeks ! (states .row) (Is (states .row)) (shows 𝓤 H A (states .row)) h (sv h ∷ []) (λ is-h. move ! (1 ∷ 0 ∷ []) $
         -- [the cell; what the state owns; the open borrow; obs; auth; _7; …; _6; …; _5; …; _4; …; _3; …; _2; …; _1; …; room for _0; …]
-        assigns ! (of-opd ! (load ! (from ! (hop ! (look ! 17 refl) (stop !))) (look-raw ! 0 refl))) (from ! (stop !)) (init ! 9 refl (LL.lawful S.the-type S′.the-laws 𝓤 H A W .typed h _ is-h .0)) $
+        assigns ! (of-opd ! (load ! (from ! (hop ! (look ! 17 refl) (stop !))) (look-raw ! 0 refl))) (from ! (stop !)) (init ! 9 refl (states .typed 𝓤 H A W h _ is-h .0)) $
         use0 W (raw (Tick 𝓤 H A at-mem run .pre to-tick)) (goes-tick is-h) $
         calls-at ! fm (Tick 𝓤 H A at-mem run) known-t to-tick (and-then ! (load ! (from ! (stop !)) (look ! 16 refl)) (and-then ! (load ! (from ! (stop !)) (look ! 10 refl)) (and-then ! (load ! (from ! (stop !)) (look ! 14 refl)) (and-then ! (load ! (from ! (stop !)) (look ! 12 refl)) (no-more !))))) (λ v.
         answers ! tt tick.ended (tick.clauses 𝓤 H A at-mem run) tt (p, (h, (fs, (rs, tt)))) tt (‵ ftrue) (λ (t : Ticked). t ≡ ticked p h fs rs) (λ t ws. id⊢ 𝓤 _) v (λ t is-ticked is-t. drop ! $
-        land ! (from ! (stop !)) (init ! 7 refl (LL.lawful K.the-type K′.the-laws 𝓤 H A W .typed t _ is-t .0)) $
+        land ! (from ! (stop !)) (init ! 7 refl (ticks .typed 𝓤 H A W t _ is-t .0)) $
         use0 W (raw (NextOf 𝓤 H A at-mem run .pre (to-next t v))) (goes-next t v is-t) $
         calls-at ! fm (NextOf 𝓤 H A at-mem run) known-n (to-next t v) (and-then ! (load ! (from ! (stop !)) (look ! 8 refl)) (no-more !)) (λ w.
         answers ! tt next-of.ended (next-of.clauses 𝓤 H A at-mem run) tt (t, tt) tt (‵ ftrue) (λ (s : State). s ≡ t .state) (λ s ws. id⊢ 𝓤 _) w (λ s is-next is-s. drop ! $
-        land ! (from ! (stop !)) (init ! 5 refl (LL.lawful S.the-type S′.the-laws 𝓤 H A W .typed s _ is-s .0)) $
-        assigns ! (of-opd ! (load ! (from ! (stop !)) (look ! 5 refl))) (from ! (hop ! (look ! 17 refl) (stop !))) (store-raw ! 0 refl (LL.lawful S.the-type S′.the-laws 𝓤 H A W .typed s _ is-s .0)) $
+        land ! (from ! (stop !)) (init ! 5 refl (states .typed 𝓤 H A W s _ is-s .0)) $
+        assigns ! (of-opd ! (load ! (from ! (stop !)) (look ! 5 refl))) (from ! (hop ! (look ! 17 refl) (stop !))) (store-raw ! 0 refl (states .typed 𝓤 H A W s _ is-s .0)) $
         use0 W (raw (RanOf 𝓤 H A at-mem run .pre (to-ran t v))) (goes-ran t v is-t) $
         calls-at ! fm (RanOf 𝓤 H A at-mem run) known-r (to-ran t v) (and-then ! (load ! (from ! (stop !)) (look ! 8 refl)) (no-more !)) (λ u.
         answers ! tt ran-of.ended (ran-of.clauses 𝓤 H A at-mem run) tt (t, tt) tt (‵ ftrue) (λ (r : Ran). r ≡ ranOf t) (λ r ws. id⊢ 𝓤 _) u (λ r is-ran is-r. drop ! $
-        land ! (from ! (stop !)) (init ! 19 refl (LL.lawful R.the-type R′.the-laws 𝓤 H A W .typed r _ is-r .0)) $
-        move ! (1 ∷ []) $ drop ! $ owned ! S.the-row (Is S.the-row) (LL.makes S.the-type S′.the-plain 𝓤 H A) s _ is-s $ move ! (1 ∷ 0 ∷ []) $ closes ! tt S.the-row s (w ∷ []) b o $
+        land ! (from ! (stop !)) (init ! 19 refl (rans .typed 𝓤 H A W r _ is-r .0)) $
+        move ! (1 ∷ []) $ drop ! $ owned ! (states .row) (Is (states .row)) (states .makes 𝓤 H A) s _ is-s $ move ! (1 ∷ 0 ∷ []) $ closes ! tt (states .row) s (w ∷ []) b o $
         -- [obs; the borrow; the token; _7; …; _0; …]
         returns ! (look ! 17 refl) $ forget ! 3 refl $ forget ! 5 refl $ forget ! 7 refl $ forget ! 9 refl $ forget ! 11 refl $ forget ! 13 refl $ forget ! 15 refl $ forget ! 17 refl $
         move ! (17 ∷ 18 ∷ []) $ free1 ! $ move ! (15 ∷ 16 ∷ []) $ free1 ! $ move ! (13 ∷ 14 ∷ []) $ free1 ! $ move ! (11 ∷ 12 ∷ []) $ free1 ! $
@@ -178,13 +167,13 @@ module _ {M : Type 1} (𝓤 : URA M) (H : Heap 𝓤) (A : Atoms 𝓤) (W : Given
     (known-n : Triple 𝓤 (𝓣 .C #board·next-of) (NextOf 𝓤 H A mem run)) (known-r : Triple 𝓤 (𝓣 .C #board·ran-of) (RanOf 𝓤 H A mem run)) where
   step-walks : Walks 𝓤 H A step.ended stayed (WpFn 𝓤 H (𝓣 .C) (𝓣 .Λ) code.function) (step.clauses 𝓤 H A mem run)
   step-walks = walked 𝓤 H A step.ended stayed (step.clauses 𝓤 H A mem run) (WpFn 𝓤 H (𝓣 .C) (𝓣 .Λ) code.function)
-      (λ κs. (ptr-vals, (LL.vals P.the-type P′.the-laws, (LL.vals U.the-type U′.the-laws, (LL.vals U.the-type U′.the-laws, tt)))))
-      (λ κs. (mut-tells (named 0) (κs .0) S.the-row, (LL.tells P.the-type P′.the-laws, (LL.tells U.the-type U′.the-laws, (LL.tells U.the-type U′.the-laws, tt)))))
+      (λ κs. (ptr-vals, (λ x. plans .val x ∷ [], (λ x. sets .val x ∷ [], (λ x. sets .val x ∷ [], tt)))))
+      (λ κs. (mut-tells (named 0) (κs .0) (states .row), (plans .tells, (sets .tells, (sets .tells, tt)))))
       (λ κs qs bounds a g are. via 𝓤 _ (fst∗ 𝓤 _ (emp 𝓤)) (walk 𝓤 H A W mem run (κs .0) (qs .0) (a .0 .ptr .0) (a .0 .ptr .1) (a .0 .name) (a .0 .now) (a .1 .0) (a .1 .1 .0) (a .1 .1 .1 .0) (are .1 .0) (are .1 .1 .0) (are .1 .1 .1 .0)
       (𝓣 .C) (𝓣 .Λ) (fmOf 𝓤 H (W .laws) 𝓣) known-t known-n known-r))
 
   goes : AllGo 𝓤 H A W 1 (step.signature .params) (step.ended .kept) stayed
-  goes = (goes-ref 𝓤 H A W 1 0 tt (plain (λ _. S.the-row)), (goes-none 𝓤 H A W 1 (λ _. P.the-row) yes (λ κs x f. refl), (goes-none 𝓤 H A W 1 (λ _. U.the-row) yes (λ κs x f. refl), (goes-none 𝓤 H A W 1 (λ _. U.the-row) yes (λ κs x f. refl), tt))))
+  goes = (goes-ref 𝓤 H A W 1 0 tt (plain (λ _. states .row)), (goes-none 𝓤 H A W 1 (λ _. plans .row) yes (λ κs x f. refl), (goes-none 𝓤 H A W 1 (λ _. sets .row) yes (λ κs x f. refl), (goes-none 𝓤 H A W 1 (λ _. sets .row) yes (λ κs x f. refl), tt))))
 
   step-meets : Meets 𝓤 H A step.signature (WpFn 𝓤 H (𝓣 .C) (𝓣 .Λ) code.function) (step.spec 𝓤 H A mem run)
   step-meets = walk-meets 𝓤 H A step.ended stayed W goes (step.clauses 𝓤 H A mem run) (WpFn 𝓤 H (𝓣 .C) (𝓣 .Λ) code.function) (WpFn-mono 𝓤 H (W .laws) 𝓣 code.function) step-walks

@@ -1,0 +1,27 @@
+-- What the contract of `step` fixes: two steps that satisfy it have the same answer and the same record, and on a refusal the record is as it was and nothing runs.
+use mathlib.Core.Path.{_≡_, sym, _∙_, ap}
+use lib.ListN.{replicate}
+use Rattle.tasks.specs.declared.Answer.{Answer}
+use Rattle.tasks.specs.declared.Answer.the-variants.{Refused}
+use Rattle.tasks.specs.declared.Refusal.{Refusal}
+use Rattle.plans.specs.declared.Plan.{Plan}
+use Rattle.dispatch.specs.Jobs.{noRun}
+use Rattle.dispatch.specs.Tick.{tick}
+use Rattle.dispatch.specs.declared.State.{State}
+use Rattle.dispatch.specs.declared.Tasks.{Tasks}
+use Rattle.dispatch.proofs.Kept.{refused-nothing}
+use Rattle.board.specs.Ran.{ranOf}
+use Rattle.board.specs.declared.Ran.{Ran}
+
+module _ (p : Plan) (s : State) (fs rs : Tasks) where
+  -- r is answered, and the record is n at exit
+  abbrev pub Stepped : Ran → State → Type 0
+  Stepped r n = (r ≡ ranOf (tick p s fs rs)) × (n ≡ tick p s fs rs .state)
+
+  pub steps-alike : (r r′ : Ran) (n n′ : State) → Stepped r n → Stepped r′ n′ → (r ≡ r′) × (n ≡ n′)
+  steps-alike r r′ n n′ h h′ = (h .0 ∙ sym (h′ .0), h .1 ∙ sym (h′ .1))
+
+  pub refused-stays : (r : Ran) (n : State) (x : Refusal) → Stepped r n → r .answer ≡ Refused x → (n ≡ s) × (r .runs ≡ replicate 16 noRun)
+  refused-stays r n x h e =
+      let said = refused-nothing p s fs rs x (sym (ap (λ (u : Ran). u .answer) (h .0)) ∙ e) in
+      (h .1 ∙ said .0, ap (λ (u : Ran). u .runs) (h .0) ∙ said .1)
