@@ -6,7 +6,7 @@ ghost use Rattle.plans.specs.Pieces.{noPiece};
 ghost use Rattle.dispatch.specs.Tick.{tick as ticked};
 ghost use Rattle.board.specs.Adding.{lentPiece, upTo, unplacedOf, placedOn, askedOf, beginOf, added, Bearable, boundingOf};
 ghost use Rattle.board.specs.Lent.{boundLent};
-ghost use Rattle.board.specs.Ran.{ranOf};
+ghost use Rattle.board.specs.Ran.{ranOf, tickedOf};
 use dispatch::CoreRun;
 use dispatch::State;
 use dispatch::Tasks;
@@ -62,6 +62,28 @@ pub fn step(state: &mut State, plan: Plan, finished: Tasks, released: Tasks) -> 
     let ticked = dispatch::tick(plan, here, finished, released);
     *state = next_of(ticked);
     ran_of(ticked)
+}
+
+// What a tick shows and the record that it leaves, together.
+fn ticked_of(ran: Ran, state: State) -> Ticked
+    ensures { λ r. ⌜ r ≡ tickedOf ran state ⌝ }
+{
+    let answer = ran.answer;
+    let runs = ran.runs;
+    Ticked {
+        answer,
+        runs,
+        state,
+    }
+}
+
+// One tick for a caller that passes the record by value: it is kept here and stepped where it stands.
+pub fn keep(state: State, plan: Plan, finished: Tasks, released: Tasks) -> Ticked
+    ensures { λ r. ⌜ r ≡ ticked plan state finished released ⌝ }
+{
+    let mut kept = state;
+    let ran = step(&mut kept, plan, finished, released);
+    ticked_of(ran, kept)
 }
 
 fn no_piece() -> Piece
