@@ -1,7 +1,6 @@
 -- What the contract of `step` fixes: two steps that satisfy it have the same answer and the same record, and on a refusal the record is as it was and nothing runs.
 use mathlib.Core.Path.{_≡_, sym, _∙_, ap}
 use lib.ListN.{replicate}
-use Rattle.tasks.specs.declared.Answer.{Answer}
 use Rattle.tasks.specs.declared.Answer.the-variants.{Refused}
 use Rattle.tasks.specs.declared.Refusal.{Refusal}
 use Rattle.plans.specs.declared.Plan.{Plan}

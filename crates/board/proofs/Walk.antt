@@ -176,13 +176,13 @@ Own κ l = ShrSlice (named 0) κ Z.the-row .own l (listVal l ∷ [])
 abbrev pub Token : {M : Type 1} (𝓤 : URA M) → Lft → Share → Item 𝓤
 Token 𝓤 κ q = ‵ (flft κ q) ⊛ ‵ ftrue
 
--- what a call asks that takes a plain value, a lent list and a number, and has a `requires`
+-- what a call asks that takes a plain value, a lent list and a number, but for the `requires`
 pub lends : {M : Type 1} (𝓤 : URA M) (H : Heap 𝓤) (A : Atoms 𝓤) (W : Given 𝓤 H A) (κ : Lft) (q : Share) (X : Held) (x : X .row .Denot) (v : Val) → Is (X .row) x (v ∷ [])
-    → (l : RefT (List Piece)) (n : ℕ) (u : Val) → Is usize n (u ∷ []) → (φ : Type 0) → φ
+    → (l : RefT (List Piece)) (n : ℕ) (u : Val) → Is usize n (u ∷ []) → (E : SProp 𝓤) → ent 𝓤 (emp 𝓤) E
     → ent 𝓤 (sep 𝓤 (mean 𝓤 H A (Token 𝓤 κ q)) (sem 𝓤 H A (Own κ l)))
-    (sep 𝓤 (sep 𝓤 (mean 𝓤 H A (Token 𝓤 κ q)) (sem 𝓤 H A (owns (X .row ∷ ShrSlice (named 0) κ Z.the-row ∷ usize ∷ []) (x, (l, (n, tt))) (v ∷ [], (listVal l ∷ [], (u ∷ [], tt)))))) (fact 𝓤 φ))
-lends 𝓤 H A W κ q X x v is-x l n u is-n φ asked =
-    qed W (Token 𝓤 κ q ∷ ‵ (Own κ l) ∷ []) ∵ says ! asked $ frame ! $
+    (sep 𝓤 (sep 𝓤 (mean 𝓤 H A (Token 𝓤 κ q)) (sem 𝓤 H A (owns (X .row ∷ ShrSlice (named 0) κ Z.the-row ∷ usize ∷ []) (x, (l, (n, tt))) (v ∷ [], (listVal l ∷ [], (u ∷ [], tt)))))) E)
+lends 𝓤 H A W κ q X x v is-x l n u is-n E e =
+    qed W (Token 𝓤 κ q ∷ ‵ (Own κ l) ∷ []) ∵ beside ! e $ frame ! $
     nothing ! $ owned ! usize (Is usize) (uint-makes 𝓤 H A W w64) n _ is-n $ fjoin ! $ move ! (1 ∷ 0 ∷ []) $ fjoin ! $ owned ! (X .row) (Is (X .row)) (X .makes 𝓤 H A) x _ is-x $ fjoin ! $ done !
 
 -- ---- a function that takes a plain value, a lent list and a number, and answers with a plain value

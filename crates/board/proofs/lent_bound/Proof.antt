@@ -15,7 +15,7 @@ use prog.Routine.{Routine}
 use prog.Wp.{Heap, Calls, Loops, WpFn}
 use ghost.Atoms.{Atoms}
 use sound.WpLaws.{FmC, fmOf}
-use contract.Monad.{Fun, factI}
+use contract.Monad.{Fun, fact, factI}
 use contract.Running.{givenOf, tables, tablesOf}
 use types.Kit.{Given, ‵, raw, _⊛_, _$_, _∵_, !, qed, by, move, drop, use0, use1, use2, split, fsplit}
 use types.Part.{whole, sub, look-in}
@@ -149,7 +149,7 @@ module _ {M : Type 1} (𝓤 : URA M) (H : Heap 𝓤) (A : Atoms 𝓤) (mem : Mem
           answers ! tt unplaced.ended (unplaced.clauses 𝓤 H A mem run) tt (t, tt) tt (‵ ftrue) (λ (p : Plan). p ≡ unplacedOf t) (λ p ws. id⊢ 𝓤 _) v₀ (λ p₀ e₀ is-p₀. drop ! $
           land ! (from ! (stop !)) (init ! 4 refl (plans .typed 𝓤 H A W p₀ _ is-p₀ .0)) $
           move ! (1 ∷ []) $ use1 W (‵ (Own κ l) ⊛ ‵ (Own κ l)) (shr-slice-copy 𝓤 H A W (named 0) κ (pieces .row) .twice l (listVal l ∷ [])) $ split ! $ move ! (2 ∷ 0 ∷ []) $
-          use2 W (raw (PlaceAll .pre (to-place p₀ v₀))) (lends 𝓤 H A W κ q plans p₀ v₀ is-p₀ l (length ys) _ (refl, room .0) (length ys ≤ length ys) (le-refl _)) $
+          use2 W (raw (PlaceAll .pre (to-place p₀ v₀))) (lends 𝓤 H A W κ q plans p₀ v₀ is-p₀ l (length ys) _ (refl, room .0) (fact 𝓤 (length ys ≤ length ys)) (factI 𝓤 _ (emp 𝓤) (le-refl _))) $
           calls-at ! fm PlaceAll (known .place-all) (to-place p₀ v₀) (and-then ! (load ! (from ! (stop !)) (look ! 4 refl)) (and-then ! (load ! (from ! (stop !)) (look ! 16 refl)) (and-then ! (load ! (from ! (stop !)) (look ! 12 refl)) (no-more !)))) (λ v₁.
           answers ! tt place-all.ended (place-all.clauses 𝓤 H A mem run) (κ, tt) (p₀, (l, (length ys, tt))) tt (Token 𝓤 κ q) (λ (p : Plan). p ≡ upTo placedOn (length ys) p₀ ys) (λ p ws. id⊢ 𝓤 _) v₁ (λ p e₁ is-p.
           land ! (from ! (stop !)) (init ! 10 refl (plans .typed 𝓤 H A W p _ is-p .0)) $
@@ -162,7 +162,7 @@ module _ {M : Type 1} (𝓤 : URA M) (H : Heap 𝓤) (A : Atoms 𝓤) (mem : Mem
           answers ! tt reach.ended (reach.clauses 𝓤 H A mem run) tt (s, tt) tt (‵ ftrue) (λ (n : ℕ). n ≡ s .reach) (λ n ws. id⊢ 𝓤 _) v₃ (λ n e₃ is-n. drop ! $
           land ! (from ! (stop !)) (init ! 6 refl (uint-lawful 𝓤 H A W w64 .typed n _ is-n .0)) $
           move ! (1 ∷ []) $ use1 W (‵ (Own κ l) ⊛ ‵ (Own κ l)) (shr-slice-copy 𝓤 H A W (named 0) κ (pieces .row) .twice l (listVal l ∷ [])) $ split ! $ move ! (2 ∷ 0 ∷ []) $
-          use2 W (raw (AddAll .pre (to-add s v₂ n v₃))) (lends 𝓤 H A W κ q addings s v₂ is-s l n v₃ is-n (Asked s n) (asked p₀ p s n e₀ e₁ e₂ e₃)) $
+          use2 W (raw (AddAll .pre (to-add s v₂ n v₃))) (lends 𝓤 H A W κ q addings s v₂ is-s l n v₃ is-n (fact 𝓤 (Asked s n)) (factI 𝓤 _ (emp 𝓤) (asked p₀ p s n e₀ e₁ e₂ e₃))) $
           calls-at ! fm AddAll (known .add-all) (to-add s v₂ n v₃) (and-then ! (load ! (from ! (stop !)) (look ! 8 refl)) (and-then ! (load ! (from ! (stop !)) (look ! 16 refl)) (and-then ! (load ! (from ! (stop !)) (look ! 6 refl)) (no-more !)))) (λ v₄.
           answers ! tt add-all.ended (add-all.clauses 𝓤 H A mem run) (κ, tt) (s, (l, (n, tt))) tt (Token 𝓤 κ q) (λ (s′ : Adding). s′ ≡ upTo added n s ys) (λ s′ ws. id⊢ 𝓤 _) v₄ (λ s′ e₄ is-s′.
           land ! (from ! (stop !)) (init ! 2 refl (addings .typed 𝓤 H A W s′ _ is-s′ .0)) $
