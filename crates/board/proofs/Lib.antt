@@ -1,5 +1,5 @@
 pub mod Walk
-pub mod Stepped
+pub mod Settled
 pub mod Begun
 pub mod SameBounds
 pub mod Placed

@@ -1,26 +1,40 @@
--- What the contract of `step` fixes: two steps that satisfy it have the same answer and the same record, and on a refusal the record is as it was and nothing runs.
+-- Each public contract settles its result, and that of `step` settles the lent record too; on a refusal the record is as it was and nothing runs.
+use mathlib.Core.List.{List}
 use mathlib.Core.Path.{_≡_, sym, _∙_, ap}
+use Prim.Native.Nat.{ℕ}
 use lib.ListN.{replicate}
 use Rattle.tasks.specs.declared.Answer.the-variants.{Refused}
 use Rattle.tasks.specs.declared.Refusal.{Refusal}
+use Rattle.tasks.specs.declared.Table.{Table}
+use Rattle.tasks.proofs.Settling.{Settles, settled}
+use Rattle.plans.specs.declared.Bounding.{Bounding}
+use Rattle.plans.specs.declared.Piece.{Piece}
 use Rattle.plans.specs.declared.Plan.{Plan}
 use Rattle.dispatch.specs.Jobs.{noRun}
 use Rattle.dispatch.specs.Tick.{tick}
 use Rattle.dispatch.specs.declared.State.{State}
 use Rattle.dispatch.specs.declared.Tasks.{Tasks}
 use Rattle.dispatch.proofs.Kept.{refused-nothing}
+use Rattle.board.specs.Lent.{boundLent}
 use Rattle.board.specs.Ran.{ranOf}
 use Rattle.board.specs.declared.Ran.{Ran}
+use Rattle.board.proofs.keep.Reads as keep
 
 module _ (p : Plan) (s : State) (fs rs : Tasks) where
-  -- r is answered, and the record is n at exit
+  -- what `step` ensures: r is answered, and the record is n at exit
   abbrev pub Stepped : Ran → State → Type 0
   Stepped r n = (r ≡ ranOf (tick p s fs rs)) × (n ≡ tick p s fs rs .state)
 
-  pub steps-alike : (r r′ : Ran) (n n′ : State) → Stepped r n → Stepped r′ n′ → (r ≡ r′) × (n ≡ n′)
-  steps-alike r r′ n n′ h h′ = (h .0 ∙ sym (h′ .0), h .1 ∙ sym (h′ .1))
+  pub step-settled : (r r′ : Ran) (n n′ : State) → Stepped r n → Stepped r′ n′ → (r ≡ r′) × (n ≡ n′)
+  step-settled r r′ n n′ h h′ = (settled (h .0) (h′ .0), settled (h .1) (h′ .1))
 
   pub refused-stays : (r : Ran) (n : State) (x : Refusal) → Stepped r n → r .answer ≡ Refused x → (n ≡ s) × (r .runs ≡ replicate 16 noRun)
   refused-stays r n x h e =
       let said = refused-nothing p s fs rs x (sym (ap (λ (u : Ran). u .answer) (h .0)) ∙ e) in
       (h .1 ∙ said .0, ap (λ (u : Ran). u .runs) (h .0) ∙ said .1)
+
+pub keep-settled : Settles (keep.Post tt)
+keep-settled x e r s p q = settled p q
+
+pub lent-bound-settled : (t : Table) (ys : List Piece) (q : ℕ) (r s : Bounding) → r ≡ boundLent t ys q → s ≡ boundLent t ys q → r ≡ s
+lent-bound-settled t ys q r s = settled
