@@ -1,10 +1,10 @@
 pub mod Walks
+pub mod Highest
 pub mod Choosing
 pub mod Making
 pub mod Judging
 pub mod Checked
 pub mod Sitting
-pub mod Highest
 pub mod Steps
 pub mod Kept
 pub mod Alone

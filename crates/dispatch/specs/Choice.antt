@@ -1,12 +1,16 @@
--- How the choice of runners walks over the jobs: where each job stands, and the best found so far on a core.
+-- How the choice of runners walks over the jobs: where each job stands, and the best found so far on each core.
 use mathlib.Core.Bool.{false}
+use mathlib.Core.List.{List}
+use mathlib.Core.Path.{_≡_}
 use Prim.Native.Nat.{ℕ}
+use Rattle.tasks.specs.Below.{padded}
 use Rattle.plans.specs.Pieces.{noPiece, taskOf, pieceOf}
 use Rattle.plans.specs.Shape.{isLast}
 use Rattle.plans.specs.declared.Plan.{Plan}
-use Rattle.dispatch.specs.Jobs.{jobOf, byRunner, isActive}
+use Rattle.dispatch.specs.Jobs.{jobOf, isActive}
 use Rattle.dispatch.specs.Rules.{pieceAt, highest}
-use Rattle.dispatch.specs.declared.Best.{Best}
+use Rattle.dispatch.specs.Sound.{AtPieces}
+use Rattle.dispatch.specs.declared.CoreRun.{CoreRun}
 use Rattle.dispatch.specs.declared.Stand.{Stand}
 use Rattle.dispatch.specs.declared.State.{State}
 
@@ -22,6 +26,11 @@ standOf p s i = record {
   deadline = taskOf p (pieceAt p s i .task .0) .deadline;
 }
 
--- of the first k tasks, the highest ranked on core x, with where it stands
-abbrev pub bestOf : Plan → State → ℕ → ℕ → Best
-bestOf p s x k = record { runner = highest p s x k; stand = byRunner (highest p s x k) noStand (standOf p s) }
+-- the stands of a state whose jobs are at pieces of the plan
+pub record StandsOf (p : Plan) (s : State) (stands : List Stand) : Type 0 where
+  pub pieces : AtPieces p s
+  pub list : stands ≡ padded 64 (p .count) noStand (standOf p s)
+
+-- of the first k tasks, the highest ranked on core x
+abbrev pub found : Plan → State → ℕ → ℕ → CoreRun
+found p s k x = record { runner = highest p s x k }

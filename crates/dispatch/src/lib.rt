@@ -9,12 +9,11 @@ ghost use Rattle.tasks.specs.Below.{all, any, first, tabulate, padded};
 ghost use Rattle.tasks.specs.Tables.{andThen};
 ghost use Rattle.tasks.specs.declared.Answer.the-variants.{Accepted};
 ghost use Rattle.plans.specs.Pieces.{noPiece, taskOf, pieceOf};
-ghost use Rattle.plans.specs.Rank.{above};
 ghost use Rattle.plans.specs.Shape.{isLast, checkedPlan};
-ghost use Rattle.dispatch.specs.Choice.{noStand, standOf, bestOf};
+ghost use Rattle.dispatch.specs.Choice.{noStand, standOf, StandsOf, found as foundBest};
 ghost use Rattle.dispatch.specs.Jobs.{freshState, runningTask, noJob, noRun, jobOf, lastOf, byRunner, isActive, onceReleased, names as named};
 ghost use Rattle.dispatch.specs.Refusing.{notRun, tooSoon, stillActive, lowest, judgedSets, judged};
-ghost use Rattle.dispatch.specs.Rules.{total as totalled, endedJob, finishedJob, finish, turnsLate, markedJob, markLate, firstPiece, releasedJob, release, agedJob, age as aged, beats as beaten, highest, chosen, ranJob, run, preempted as pushed, countPreempted};
+ghost use Rattle.dispatch.specs.Rules.{total as totalled, endedJob, finishedJob, finish, turnsLate, markedJob, markLate, firstPiece, releasedJob, release, agedJob, age as aged, highest, chosen, ranJob, run, preempted as pushed, countPreempted};
 ghost use Rattle.dispatch.specs.Sets.{member};
 ghost use Rattle.dispatch.specs.Sound.{Sound, AtPieces, RanTasks};
 ghost use Rattle.dispatch.specs.Tick.{nextState, tick as ticked};
@@ -443,7 +442,7 @@ impl State {
         ensures { λ r. ⌜ r ≡ run plan self ⌝ }
     {
         let stands = self.stands(plan);
-        let last = choose(stands, plan.count, plan.cores);
+        let last = choose(plan, stands);
         let jobs = self.ran_jobs(plan, stands, last);
         self.jobs = jobs;
         self.last = last;
@@ -478,7 +477,7 @@ impl State {
 
     // The jobs after those that were chosen have run.
     fn ran_jobs(self, plan: Plan, stands: [Stand; 64], last: [CoreRun; 16]) -> [Job; 64]
-        requires { ⌜ Sound plan × AtPieces plan self × (stands ≡ padded 64 (plan .count) noStand (standOf plan self)) × (last ≡ padded 16 (plan .cores) noRun (chosen plan self)) ⌝ }
+        requires { ⌜ Sound plan × StandsOf plan self stands × (last ≡ padded 16 (plan .cores) noRun (chosen plan self)) ⌝ }
         ensures { λ r. ⌜ r ≡ run plan self .jobs ⌝ }
     {
         let empty = no_job();
@@ -702,78 +701,41 @@ struct Stand {
     deadline: u32,
 }
 
-// The best found so far on a core, and where its job stands.
-struct Best {
-    runner: Runner,
-    stand: Stand,
-}
-
-// What runs on each core.
-fn choose(stands: [Stand; 64], count: usize, cores: usize) -> [CoreRun; 16]
-    requires { ⌜ (count ≤ 64) × (cores ≤ 16) ⌝ }
-    ensures { λ r. ⌜ ((p : Plan) (s : State) → p .count ≡ count → stands ≡ padded 64 count noStand (standOf p s) → r ≡ padded 16 cores noRun (chosen p s)) ⌝ }
+// What runs on each core, the stands being a state's: one walk over the tasks, each job against the best found so far on its core.
+fn choose(plan: Plan, stands: [Stand; 64]) -> [CoreRun; 16]
+    requires { ⌜ Sound plan × ((s : State) × StandsOf plan s stands) ⌝ }
+    ensures { λ r. ⌜ ((s : State) → StandsOf plan s stands → r ≡ padded 16 (plan .cores) noRun (chosen plan s)) ⌝ }
 {
     let empty = no_run();
     let mut runs = [empty; 16];
-    let mut x = 0;
-    while x < cores {
-        runs[x] = highest_on(stands, count, x);
-        x += 1;
+    let mut i = 0;
+    while i < plan.count {
+        let stand = stands[i];
+        let piece = stand.piece;
+        let x = piece.core.index();
+        let core = runs[x];
+        let found = core.runner;
+        let held = stands[task_of(found)];
+        runs[x] = better(found, held, stand, i as u8);
+        i += 1;
     }
     runs
 }
 
-// The highest ranked job on a core: one walk over the tasks.
-fn highest_on(stands: [Stand; 64], count: usize, core: usize) -> CoreRun
-    requires { ⌜ count ≤ 64 ⌝ }
-    ensures { λ r. ⌜ ((p : Plan) (s : State) → p .count ≡ count → stands ≡ padded 64 count noStand (standOf p s) → r ≡ chosen p s core) ⌝ }
+// The best on a core, one more job there being looked at: `found` is the best so far, `held` where its job stands.
+fn better(found: Runner, held: Stand, stand: Stand, task: u8) -> CoreRun
+    ensures { λ r. ⌜ ((p : Plan) (s : State) → stand ≡ standOf p s task → found ≡ highest p s (stand .piece .core .0) task → held ≡ standOf p s (runningTask found) → r ≡ foundBest p s (task + 1) (stand .piece .core .0)) ⌝ }
 {
-    let runner = Runner::Idle;
-    let stand = no_stand();
-    let mut best = Best { runner, stand };
-    let mut i = 0;
-    while i < count {
-        best = better(best, stands[i], i as u8, core);
-        i += 1;
-    }
-    let runner = best.runner;
-    CoreRun { runner }
-}
-
-// The best on a core, one more job being looked at.
-fn better(best: Best, stand: Stand, task: u8, core: usize) -> Best
-    ensures { λ r. ⌜ ((p : Plan) (s : State) → stand ≡ standOf p s task → best ≡ bestOf p s core task → r ≡ bestOf p s core (task + 1)) ⌝ }
-{
-    let place = stand.piece.core;
-    let here = stand.active & (place.index() == core);
-    if here & beats(stand, best) {
+    let piece = stand.piece;
+    let other = held.piece;
+    let above = plans::outranks(piece, stand.deadline, other, held.deadline);
+    if stand.active & (!is_running(found) | above) {
         let runner = Runner::Runs(TaskNo(task));
-        Best { runner, stand }
+        CoreRun { runner }
     } else {
-        best
+        let runner = found;
+        CoreRun { runner }
     }
-}
-
-// Is the job's piece ranked above that of the best found so far?
-fn beats(stand: Stand, best: Best) -> bool
-    ensures { λ r. ⌜ ((p : Plan) (s : State) (x k i : ℕ) → stand ≡ standOf p s i → best ≡ bestOf p s x k → r ≡ beaten p s i (highest p s x k)) ⌝ }
-{
-    let runner = best.runner;
-    let held = best.stand;
-    match runner {
-        Runner::Idle => true,
-        Runner::Runs(_) => is_above(stand, held),
-    }
-}
-
-// Is the piece of the one on the core of the other's and ranked above it?
-fn is_above(a: Stand, b: Stand) -> bool
-    ensures { λ r. ⌜ ((ts : ℕ → Task) → ts (a .piece .task .0) .deadline ≡ a .deadline → ts (b .piece .task .0) .deadline ≡ b .deadline → r ≡ above ts (a .piece) (b .piece)) ⌝ }
-{
-    let a_piece = a.piece;
-    let b_piece = b.piece;
-    (a_piece.core.index() == b_piece.core.index())
-        & plans::outranks(a_piece, a.deadline, b_piece, b.deadline)
 }
 
 // Is the piece at j, of the first `placed`, its task's last, `next` being the one after it?

@@ -1,19 +1,20 @@
+use mathlib.Core.Path.{sym, _∙_}
 use borrow.Author.Needs.{needs}
-use Rattle.dispatch.proofs.Choosing.{best-new, best-old}
+use Rattle.dispatch.proofs.Choosing.{better-turn}
 use Rattle.dispatch.proofs.better.Statement.{statement}
 use Rattle.dispatch.proofs.better.Tie as tie
 
-index-requires : tie.Need-index-requires
-index-requires c κs = search needs
+outranks-requires : tie.Need-outranks-requires
+outranks-requires c κs = search needs
 
-beats-requires : tie.Need-beats-requires
-beats-requires c κs = search needs
+is-running-requires : tie.Need-is-running-requires
+is-running-requires c κs = search needs
 
 returns : tie.Need-returns
-returns c = λ p s q e. best-new p s _ _ _ e _ q _ (c .before .beats .ensures p s _ _ _ q e) (rw (c .before .before .before .index .ensures .0) at (c .if1 .taken))
+returns c = λ p s q f h. better-turn p s _ _ _ _ _ _ _ q f h (c .before .before .is-running .ensures) (c .before .before .before .outranks .ensures) (c .if1 .taken)
 
 returns-2 : tie.Need-returns-2
-returns-2 c = λ p s q e. best-old p s _ _ _ e _ q _ (c .before .beats .ensures p s _ _ _ q e) (rw (c .before .before .before .index .ensures .0) at (c .if1 .left))
+returns-2 c = λ p s q f h. better-turn p s _ _ _ _ _ _ _ q f h (c .before .before .is-running .ensures) (c .before .before .before .outranks .ensures) (c .if1 .left)
 
 pub better-spec : {M : Type 1} → statement M
-better-spec = tie.close (tie.spec index-requires beats-requires returns returns-2)
+better-spec = tie.close (tie.spec outranks-requires is-running-requires returns returns-2)

@@ -1,50 +1,87 @@
 use mathlib.Core.Path.{_≡_}
-use Prim.Native.Nat.{_-_, _≤_}
+use Prim.Native.Nat.{_-_, _≤_, _<_}
 use native.Mathlib.Omega.{arith}
 use borrow.Author.Needs.{needs}
-use Rattle.tasks.proofs.Padded.{padded-turn}
-use Rattle.tasks.proofs.Tabulate.{padded-start}
 use Rattle.tasks.specs.Below.{padded}
-use Rattle.plans.specs.declared.Plan.{Plan}
-use Rattle.dispatch.specs.Choice.{noStand, standOf}
+use Rattle.dispatch.specs.Choice.{StandsOf, found}
 use Rattle.dispatch.specs.Jobs.{noRun}
-use Rattle.dispatch.specs.Rules.{chosen}
 use Rattle.dispatch.specs.declared.State.{State}
+use Rattle.dispatch.proofs.Choosing.{found-start, core-in, found-in, choose-turn}
 use Rattle.dispatch.proofs.choose.Statement.{statement}
 use Rattle.dispatch.proofs.choose.Tie as tie
 
 abbrev Inv-loop : tie.InvT-loop
-Inv-loop stands count cores runs₀ x₀ runs x = (x ≤ cores) × (cores ≤ 16) × (count ≤ 64) × ((p : Plan) (s : State) → p .count ≡ count → stands ≡ padded 64 count noStand (standOf p s) → runs ≡ padded 16 x noRun (chosen p s))
+Inv-loop plan stands runs₀ i₀ runs i = (i ≤ plan .count) × ((s : State) → StandsOf plan s stands → runs ≡ padded 16 (plan .cores) noRun (found plan s i))
 
 abbrev μ-loop : tie.MeasureT-loop
-μ-loop stands count cores runs₀ x₀ runs x = cores - x
+μ-loop plan stands runs₀ i₀ runs i = plan .count - i
+
+-- the job's core is one of the plan's
+on-core : (c : tie.After-index Inv-loop μ-loop) → c .index .result < c .before .before .before .before .before .before .before .args .plan .cores
+on-core c =
+    let b = c .before .before .before .before .before in
+    let pre = b .before .before .pre in
+    core-in (b .before .before .args .plan) (pre .1 .0) (pre .0) _ (pre .1 .1) (b .loop .i) (c .before .before .before .if1 .taken) _ (b .loop .inv .1 (pre .1 .0) (pre .1 .1)) _ (c .index .ensures .0)
 
 no-run-requires : tie.Need-no-run-requires Inv-loop μ-loop
 no-run-requires c κs = search needs
 
 loop-holds : tie.Need-loop-holds Inv-loop μ-loop
-loop-holds c = (search needs, search needs, search needs, λ p s q e. rw (c .no-run .ensures) (padded-start 16 noRun _))
+loop-holds c = (search needs, λ s e. rw (c .no-run .ensures) (found-start _ s))
 
-highest-on-requires : tie.Need-highest-on-requires Inv-loop μ-loop
-highest-on-requires c κs = search needs
+mul-stand : tie.Need-mul-stand Inv-loop μ-loop
+mul-stand c = search needs
+
+array-copy-out-stand : tie.Need-array-copy-out-stand Inv-loop μ-loop
+array-copy-out-stand c = omega (arith, c .before .before .before .before .pre .0 .count)
+
+index-requires : tie.Need-index-requires Inv-loop μ-loop
+index-requires c κs = search needs
+
+mul-core : tie.Need-mul-core Inv-loop μ-loop
+mul-core c = search needs
+
+array-copy-out-core : tie.Need-array-copy-out-core Inv-loop μ-loop
+array-copy-out-core c = omega (arith, on-core c, c .before .before .before .before .before .before .before .pre .0 .cores)
+
+task-of-requires : tie.Need-task-of-requires Inv-loop μ-loop
+task-of-requires c κs = search needs
+
+mul-held : tie.Need-mul-held Inv-loop μ-loop
+mul-held c = search needs
+
+array-copy-out-held : tie.Need-array-copy-out-held Inv-loop μ-loop
+array-copy-out-held c =
+    let b = c .before .before .before .before .before .before .before in
+    let pre = b .before .before .pre in
+    omega (arith, c .task-of .ensures .0, pre .0 .count, found-in (b .before .before .args .plan) (pre .1 .0) (pre .0) _ (pre .1 .1) (b .loop .i) (c .before .before .before .before .before .if1 .taken) _ (b .loop .inv .1 (pre .1 .0) (pre .1 .1)) _ (c .before .before .index .ensures .0))
+
+cast-better : tie.Need-cast-better Inv-loop μ-loop
+cast-better c = omega (arith, c .before .before .before .before .before .before .before .before .before .before .pre .0 .count)
+
+better-requires : tie.Need-better-requires Inv-loop μ-loop
+better-requires c κs = search needs
 
 mul-runs : tie.Need-mul-runs Inv-loop μ-loop
 mul-runs c = search needs
 
 array-set-from-runs : tie.Need-array-set-from-runs Inv-loop μ-loop
-array-set-from-runs c = search needs
+array-set-from-runs c = omega (arith, on-core (c .before .before .before .before), c .before .before .before .before .before .before .before .before .before .before .before .pre .0 .cores)
 
-add-x : tie.Need-add-x Inv-loop μ-loop
-add-x c = search needs
+add-i : tie.Need-add-i Inv-loop μ-loop
+add-i c = omega (arith, c .before .before .before .before .before .before .before .before .before .before .before .pre .0 .count)
 
 loop-less : tie.Need-loop-less Inv-loop μ-loop
 loop-less c = search needs
 
 loop-again : tie.Need-loop-again Inv-loop μ-loop
-loop-again c = (search needs, search needs, search needs, λ p s q e. padded-turn 16 noRun _ _ _ _ (search needs) (c .before .before .loop .inv .3 p s q e) (c .highest-on .ensures p s q e))
+loop-again c =
+    let b = c .before .before .before .before .before .before .before .before .before in
+    let p = b .before .before .args .plan in
+    (search needs, λ s e. choose-turn p s (b .before .before .pre .0) _ e (b .loop .i) (c .before .before .before .before .before .before .before .if1 .taken) _ (b .loop .inv .1 s e) _ (c .before .before .before .before .index .ensures .0) _ _ (c .before .before .task-of .ensures .0) (c .better .ensures p s))
 
 returns : tie.Need-returns Inv-loop μ-loop
-returns c = λ p s q e. let h : c .before .loop .x ≡ c .before .before .before .args .cores = omega arith in simp (c .before .loop .inv .3 p s q e, h)
+returns c = λ s e. let b = c .before .before in let h : b .loop .i ≡ b .before .before .args .plan .count = omega arith in simp (b .loop .inv .1 s e, h)
 
 pub choose-spec : {M : Type 1} → statement M
 choose-spec =
@@ -54,10 +91,19 @@ choose-spec =
     μ-loop
     no-run-requires
     loop-holds
-    highest-on-requires
+    mul-stand
+    array-copy-out-stand
+    index-requires
+    mul-core
+    array-copy-out-core
+    task-of-requires
+    mul-held
+    array-copy-out-held
+    cast-better
+    better-requires
     mul-runs
     array-set-from-runs
-    add-x
+    add-i
     loop-less
     loop-again
     returns)

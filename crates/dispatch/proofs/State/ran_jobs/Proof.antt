@@ -7,17 +7,17 @@ use borrow.Author.Needs.{needs}
 use Rattle.tasks.proofs.Padded.{padded-turn}
 use Rattle.tasks.proofs.Tabulate.{padded-start}
 use Rattle.tasks.specs.Below.{padded}
-use Rattle.dispatch.specs.Choice.{noStand, standOf}
+use Rattle.dispatch.specs.Choice.{StandsOf}
 use Rattle.dispatch.specs.Jobs.{noJob, noRun, jobOf}
 use Rattle.dispatch.specs.Rules.{chosen, run, eachJob, runsNow, ranJob}
-use Rattle.dispatch.specs.Sound.{Sound, AtPieces}
+use Rattle.dispatch.specs.Sound.{Sound}
 use Rattle.dispatch.proofs.Choosing.{stand-is, stand-core, stand-next, ran-turn}
 use Rattle.dispatch.proofs.Walks.{padded-has}
 use Rattle.dispatch.proofs.State.ran_jobs.Statement.{statement}
 use Rattle.dispatch.proofs.State.ran_jobs.Tie as tie
 
 abbrev Inv-loop : tie.InvT-loop
-Inv-loop plan self stands last jobs₀ i₀ jobs i = (i ≤ plan .count) × (Sound plan) × (AtPieces plan self) × (stands ≡ padded 64 (plan .count) noStand (standOf plan self)) × (last ≡ padded 16 (plan .cores) noRun (chosen plan self)) × (jobs ≡ padded 64 i noJob (λ k. cond (runsNow plan self k) (ranJob plan (jobOf self k)) (jobOf self k)))
+Inv-loop plan self stands last jobs₀ i₀ jobs i = (i ≤ plan .count) × (Sound plan) × (StandsOf plan self stands) × (last ≡ padded 16 (plan .cores) noRun (chosen plan self)) × (jobs ≡ padded 64 i noJob (λ k. cond (runsNow plan self k) (ranJob plan (jobOf self k)) (jobOf self k)))
 
 abbrev μ-loop : tie.MeasureT-loop
 μ-loop plan self stands last jobs₀ i₀ jobs i = plan .count - i
@@ -26,7 +26,7 @@ no-job-requires : tie.Need-no-job-requires Inv-loop μ-loop
 no-job-requires c κs = search needs
 
 loop-holds : tie.Need-loop-holds Inv-loop μ-loop
-loop-holds c = let r = c .before .pre in (search needs, r .0, r .1, r .2, r .3, rw (c .no-job .ensures) (padded-start 64 noJob _))
+loop-holds c = let r = c .before .pre in (search needs, r .0, r .1, r .2, rw (c .no-job .ensures) (padded-start 64 noJob _))
 
 mul-stand : tie.Need-mul-stand Inv-loop μ-loop
 mul-stand c = search needs
@@ -41,7 +41,7 @@ mul-core : tie.Need-mul-core Inv-loop μ-loop
 mul-core c = search needs
 
 array-copy-out-core : tie.Need-array-copy-out-core Inv-loop μ-loop
-array-copy-out-core c = let b = c .before .before .before .before .before in let a = b .before .before .args in omega (arith, stand-core (a .plan) (a .t1) (b .loop .inv .1) _ (b .loop .inv .3) (b .loop .i) (omega arith) (b .loop .inv .2), c .index .ensures .0, b .loop .inv .1 .cores)
+array-copy-out-core c = let b = c .before .before .before .before .before in let a = b .before .before .args in omega (arith, stand-core (a .plan) (a .t1) (b .loop .inv .1) _ (b .loop .inv .2) (b .loop .i) (omega arith), c .index .ensures .0, b .loop .inv .1 .cores)
 
 names-requires : tie.Need-names-requires Inv-loop μ-loop
 names-requires c κs = search needs
@@ -53,7 +53,7 @@ element-copy-out-ran-job : tie.Need-element-copy-out-ran-job Inv-loop μ-loop
 element-copy-out-ran-job c = search needs
 
 ran-job-requires : tie.Need-ran-job-requires Inv-loop μ-loop
-ran-job-requires c κs = let b = c .before .before .before .before .before .before .before .before .before in let a = b .before .before .args in stand-next (a .plan) (a .t1) (b .loop .inv .1) _ (b .loop .inv .3) (b .loop .i) (omega arith)
+ran-job-requires c κs = let b = c .before .before .before .before .before .before .before .before .before in let a = b .before .before .args in stand-next (a .plan) (a .t1) (b .loop .inv .1) _ (b .loop .inv .2) (b .loop .i) (omega arith)
 
 mul-jobs : tie.Need-mul-jobs Inv-loop μ-loop
 mul-jobs c = search needs
@@ -73,13 +73,13 @@ loop-again c =
     let a = b .before .before .args in
     let n = b .loop .inv in
     let h : b .loop .i < a .plan .count = c .before .before .before .before .before .before .before .before .if1 .taken in
-    let q = stand-is (a .plan) (a .t1) (n .1) _ (n .3) (b .loop .i) h in
-    let x = stand-core (a .plan) (a .t1) (n .1) _ (n .3) (b .loop .i) h (n .2) in
-    (search needs, n .1, n .2, n .3, n .4, padded-turn 64 noJob _ _ _ _ (omega (arith, n .1 .count)) (n .5) (ran-turn (a .plan) (a .t1) (b .loop .i) _ _ _ _ q (ap (λ (k : ℕ). getD (a .t4) k noRun) (c .before .before .before .before .before .index .ensures .0) ∙ padded-has 16 noRun _ (chosen (a .plan) (a .t1)) _ _ (n .4) x (omega (arith, x, n .1 .cores))) (c .before .before .before .names .ensures) (c .ran-job .ensures (a .plan))))
+    let q = stand-is (a .plan) (a .t1) (n .1) _ (n .2) (b .loop .i) h in
+    let x = stand-core (a .plan) (a .t1) (n .1) _ (n .2) (b .loop .i) h in
+    (search needs, n .1, n .2, n .3, padded-turn 64 noJob _ _ _ _ (omega (arith, n .1 .count)) (n .4) (ran-turn (a .plan) (a .t1) (b .loop .i) _ _ _ _ q (ap (λ (k : ℕ). getD (a .t4) k noRun) (c .before .before .before .before .before .index .ensures .0) ∙ padded-has 16 noRun _ (chosen (a .plan) (a .t1)) _ _ (n .3) x (omega (arith, x, n .1 .cores))) (c .before .before .before .names .ensures) (c .ran-job .ensures (a .plan))))
 
 returns : tie.Need-returns Inv-loop μ-loop
 unfolding run eachJob
-returns c = let e : c .before .before .loop .i ≡ c .before .before .before .before .args .plan .count = omega arith in simp (c .before .before .loop .inv .5, e)
+returns c = let e : c .before .before .loop .i ≡ c .before .before .before .before .args .plan .count = omega arith in simp (c .before .before .loop .inv .4, e)
 
 pub ran-jobs-spec : {M : Type 1} → statement M
 ran-jobs-spec =

@@ -1,5 +1,5 @@
-use mathlib.Core.Path.{refl}
 use borrow.Author.Needs.{needs}
+use Rattle.dispatch.specs.Choice.{StandsOf}
 use Rattle.dispatch.specs.Rules.{run}
 use Rattle.dispatch.proofs.State.run.Statement.{statement}
 use Rattle.dispatch.proofs.State.run.Tie as tie
@@ -8,14 +8,14 @@ stands-requires : tie.Need-stands-requires
 stands-requires c κs = search needs
 
 choose-requires : tie.Need-choose-requires
-choose-requires c κs = search needs
+choose-requires c κs = (c .before .pre .0, (c .before .args .self, record { pieces = c .before .pre .1; list = c .stands .ensures }))
 
 ran-jobs-requires : tie.Need-ran-jobs-requires
-ran-jobs-requires c κs = let a = c .before .before .args in (c .before .before .pre .0, c .before .before .pre .1, c .before .stands .ensures, c .choose .ensures (a .plan) (a .self) refl (c .before .stands .ensures))
+ran-jobs-requires c κs = let e : StandsOf (c .before .before .args .plan) (c .before .before .args .self) (c .before .stands .result) = record { pieces = c .before .before .pre .1; list = c .before .stands .ensures } in (c .before .before .pre .0, e, c .choose .ensures (c .before .before .args .self) e)
 
 returns : tie.Need-returns
 unfolding run
-returns c = let a = c .before .before .before .args in simp (c .ran-jobs .ensures, c .before .choose .ensures (a .plan) (a .self) refl (c .before .before .stands .ensures))
+returns c = let e : StandsOf (c .before .before .before .args .plan) (c .before .before .before .args .self) (c .before .before .stands .result) = record { pieces = c .before .before .before .pre .1; list = c .before .before .stands .ensures } in simp (c .ran-jobs .ensures, c .before .choose .ensures (c .before .before .before .args .self) e)
 
 pub run-spec : {M : Type 1} → statement M
 run-spec = tie.close (tie.spec stands-requires choose-requires ran-jobs-requires returns)
