@@ -1,30 +1,36 @@
 -- The walks that judge the two sets: what is wrong with each task, and the lowest member of a set that is wrong.
-use mathlib.Core.Path.{_≡_, sym, ap, _∙_}
-use mathlib.Core.Bool.{Bool, true, false, not, _&&_, cond}
+use mathlib.Core.Path.{_≡_, refl, sym, ap, _∙_}
+use mathlib.Core.Bool.{Bool, true, false, not, _&&_, _||_, cond}
 use mathlib.Core.List.{List}
 use mathlib.Core.Logic.{_⊎_, inl, inr}
 use Prim.Native.Nat.{ℕ, _+_, _≤_, _<_}
 use native.Mathlib.Decide.{decLt}
 use native.Mathlib.Omega.{arith}
-use lib.Dec.{ltb}
-use lib.ListN.{getD}
+use lib.Dec.{ltb, eqb}
+use lib.ListN.{getD, set}
 use borrow.Author.Tests.{lt-ltb, le-ltb}
 use Rattle.tasks.specs.Below.{any, first, tabulate, padded}
 use Rattle.tasks.specs.Tables.{taskNo}
 use Rattle.tasks.specs.declared.Answer.the-variants.{Accepted, Refused}
 use Rattle.tasks.specs.declared.Refusal.{Refusal}
 use Rattle.tasks.specs.declared.TaskNo.{TaskNo}
-use Rattle.tasks.proofs.Below.{any-none, first-holds, first-none, first-same}
-use Rattle.tasks.proofs.Bools.{either}
-use Rattle.tasks.proofs.Padded.{tabulate-at}
-use Rattle.tasks.proofs.Tabulate.{tabulate-same}
+use Rattle.tasks.proofs.Below.{any-more, any-none, first-holds, first-none, first-same}
+use Rattle.tasks.proofs.Bools.{either, not-second}
+use Rattle.tasks.proofs.Padded.{tabulate-at, padded-in}
+use Rattle.tasks.proofs.Tabulate.{tabulate-same, tabulate-turn}
 use Rattle.plans.specs.Pieces.{taskOf}
 use Rattle.plans.specs.declared.Plan.{Plan}
-use Rattle.dispatch.specs.Jobs.{jobOf, lastOf, names, onceReleased}
-use Rattle.dispatch.specs.Refusing.{notRun, tooSoon, lowest}
+use Rattle.dispatch.specs.Jobs.{noJob, jobOf, lastOf, byRunner, runningTask, names, isActive, onceReleased}
+use Rattle.dispatch.specs.Refusing.{tooSoon, stillActive, lowest}
+use Rattle.dispatch.specs.Rules.{eachJob, endedJob, finishedJob, finish}
 use Rattle.dispatch.specs.Sets.{member}
+use Rattle.dispatch.specs.declared.Job.{Job}
+use Rattle.dispatch.specs.declared.Phase.{Phase}
+use Rattle.dispatch.specs.declared.Phase.the-variants.{Never, Active, Ended}
 use Rattle.dispatch.specs.declared.State.{State}
 use Rattle.dispatch.specs.declared.Tasks.{Tasks}
+use Rattle.dispatch.proofs.Steps.{finish-out}
+use Rattle.dispatch.proofs.Walks.{tabulated, or-none, running, not-running}
 
 -- a list that is padded with what f gives past n is f's table
 pub padded-all : {A : Type 0} (size n : ℕ) (empty : A) (f : ℕ → A) → ((t : ℕ) → n ≤ t → empty ≡ f t) → padded size n empty f ≡ tabulate size f
@@ -35,19 +41,68 @@ padded-all size n empty f h = tabulate-same size (λ t. cond (ltb t n) (f t) emp
     go t (yes b) = rw (lt-ltb t n b)
     go t (no b) = rw (le-ltb t n (omega arith)) (h t (omega arith))
 
--- refusals 10 and 11 for the plan's tasks and for the others, of which there is no such task
-module _ (p : Plan) (s : State) (t : ℕ) where
-  pub run-in : t < p .count → not (any (p .cores) (λ x. names t (lastOf s x))) ≡ notRun p s t
-  run-in l = rw (lt-ltb t (p .count) l)
+-- one core more is one task more that ran, or none
+module _ (p : Plan) (s : State) where
+  -- refusal 10, only the first x cores being looked at
+  abbrev pub notRunOn : ℕ → ℕ → Bool
+  notRunOn x t = not (ltb t (p .count) && any x (λ y. names t (lastOf s y)))
 
-  pub run-past : p .count ≤ t → true ≡ notRun p s t
-  run-past l = rw (le-ltb t (p .count) l)
+  pub none-run : (t : ℕ) → t < 256 → true ≡ notRunOn 0 t
+  unfolding any
+  none-run t l = rw (not-second (ltb t (p .count)) {b = false} refl)
 
-  pub soon-in : t < p .count → onceReleased (jobOf s t .phase) && ltb (jobOf s t .age) (taskOf p t .period) ≡ tooSoon p s t
-  soon-in l = rw (lt-ltb t (p .count) l)
+  same-run : (k a : Bool) {b : Bool} → b ≡ false → not (k && a) ≡ not (k && (a || b))
+  same-run k a h = ap (λ (z : Bool). not (k && z)) (or-none a h)
 
-  pub soon-past : p .count ≤ t → true ≡ tooSoon p s t
+  run-here : (k a b : Bool) → not (k && a) && not (b && k) ≡ not (k && (a || b))
+  run-here false a b = rw (not-second b {b = false} refl)
+  run-here true true b = refl
+  run-here true false true = refl
+  run-here true false false = refl
+
+  pub run-more : (xs : List Bool) (x t : ℕ) (on v : Bool) → xs ≡ tabulate 256 (notRunOn x) → t ≡ runningTask (lastOf s x) → t < 256 → on ≡ byRunner (lastOf s x) false (λ t. true) → v ≡ getD xs t false && not (on && ltb t (p .count)) → set xs t v ≡ tabulate 256 (notRunOn (x + 1))
+  run-more xs x t on v e q l o w =
+      tabulate-turn 256 (notRunOn x) (notRunOn (x + 1)) xs t v e l
+      (w ∙ rw (o, q, running (lastOf s x), any-more, ← tabulated 256 (notRunOn x) xs (runningTask (lastOf s x)) false e (rw q at l)) (run-here (ltb (runningTask (lastOf s x)) (p .count)) (any x (λ y. names (runningTask (lastOf s x)) (lastOf s y))) (names (runningTask (lastOf s x)) (lastOf s x))))
+      (λ i d. rw any-more (same-run (ltb i (p .count)) (any x (λ y. names i (lastOf s y))) (not-running (lastOf s x) i (λ b. d (b ∙ sym q)))))
+
+and-one : (a : Bool) → a && true ≡ a
+and-one true = refl
+and-one false = refl
+
+-- refusals 11 and 12 after the finishes, told of the jobs before them
+module _ (p : Plan) (few : p .count ≤ 64) (s : State) (fs : Tasks) (t : ℕ) where
+  finished-is : t < p .count → jobOf (finish p fs s) t ≡ finishedJob fs t (jobOf s t)
+  unfolding finish eachJob
+  finished-is l = padded-in 64 noJob (p .count) (λ i. finishedJob fs i (jobOf s i)) t l (omega arith)
+
+  soon-job : (h : Phase) (m : Bool) (late : Bool) (piece age ran d : ℕ) → let j : Job = record { phase = h; late = late; piece = piece; age = age; ran = ran } in let f : Job = cond (m && isActive h) (endedJob j) j in onceReleased h && ltb age d ≡ onceReleased (f .phase) && ltb (f .age) d
+  soon-job Never true late piece age ran d = refl
+  soon-job Never false late piece age ran d = refl
+  soon-job Active true late piece age ran d = refl
+  soon-job Active false late piece age ran d = refl
+  soon-job Ended true late piece age ran d = refl
+  soon-job Ended false late piece age ran d = refl
+
+  active-job : (h : Phase) (m : Bool) (late : Bool) (piece age ran d : ℕ) → let j : Job = record { phase = h; late = late; piece = piece; age = age; ran = ran } in let f : Job = cond (m && isActive h) (endedJob j) j in isActive h && eqb age d && not m ≡ isActive (f .phase) && eqb (f .age) d
+  active-job Never true late piece age ran d = refl
+  active-job Never false late piece age ran d = refl
+  active-job Active true late piece age ran d = not-second (eqb age d) {b = false} refl
+  active-job Active false late piece age ran d = and-one (eqb age d)
+  active-job Ended true late piece age ran d = refl
+  active-job Ended false late piece age ran d = refl
+
+  pub soon-in : t < p .count → onceReleased (jobOf s t .phase) && ltb (jobOf s t .age) (taskOf p t .period) ≡ tooSoon p (finish p fs s) t
+  soon-in l = rw (lt-ltb t (p .count) l, finished-is l) (soon-job (jobOf s t .phase) (member fs t) (jobOf s t .late) (jobOf s t .piece) (jobOf s t .age) (jobOf s t .ran) (taskOf p t .period))
+
+  pub soon-past : p .count ≤ t → true ≡ tooSoon p (finish p fs s) t
   soon-past l = rw (le-ltb t (p .count) l)
+
+  pub active-in : t < p .count → isActive (jobOf s t .phase) && eqb (jobOf s t .age) (taskOf p t .period) && not (member fs t) ≡ stillActive p (finish p fs s) t
+  active-in l = rw (finished-is l) (active-job (jobOf s t .phase) (member fs t) (jobOf s t .late) (jobOf s t .piece) (jobOf s t .age) (jobOf s t .ran) (taskOf p t .period))
+
+  pub active-past : p .count ≤ t → false ≡ stillActive p (finish p fs s) t
+  active-past l = rw (finish-out p fs s t l)
 
 -- one more that fails
 pub none-more : (f : ℕ → Bool) (i : ℕ) → ((j : ℕ) → j < i → f j ≡ false) → f i ≡ false → (j : ℕ) → j < i + 1 → f j ≡ false

@@ -18,7 +18,7 @@ use Rattle.dispatch.specs.Jobs.{byRunner, runningTask, names}
 use Rattle.dispatch.specs.declared.Runner.{Runner}
 use Rattle.dispatch.specs.declared.Runner.the-variants.{Idle, Runs}
 
-or-none : (a : Bool) {b : Bool} → b ≡ false → a ≡ a || b
+pub or-none : (a : Bool) {b : Bool} → b ≡ false → a ≡ a || b
 or-none true h = refl
 or-none false h = sym h
 
@@ -53,11 +53,11 @@ marks-more n m xs k t e q l =
     (or-one (any k (λ j. eqb (m j) t)) (eq-eqb (m k) t (sym q)) ∙ sym (any-more k (λ j. eqb (m j) t)))
     (λ i d. or-none (any k (λ j. eqb (m j) i)) (ne-eqb (m k) i (λ b. d (sym b ∙ sym q))) ∙ sym (any-more k (λ j. eqb (m j) i)))
 
-running : (r : Runner) → byRunner r false (λ t. true) ≡ names (runningTask r) r
+pub running : (r : Runner) → byRunner r false (λ t. true) ≡ names (runningTask r) r
 running Idle = refl
 running (Runs t) = sym (eq-eqb (t .0) (t .0) refl)
 
-not-running : (r : Runner) (i : ℕ) → (i ≡ runningTask r → ⊥) → names i r ≡ false
+pub not-running : (r : Runner) (i : ℕ) → (i ≡ runningTask r → ⊥) → names i r ≡ false
 not-running Idle i d = refl
 not-running (Runs t) i d = ne-eqb (t .0) i (λ b. d (sym b))
 

@@ -6,13 +6,12 @@ ghost use lib.Dec.{ltb, eqb};
 ghost use lib.ListN.{length, getD};
 ghost use Prim.Native.Nat.{ℕ, _+_, _≤_, _<_, min};
 ghost use Rattle.tasks.specs.Below.{all, any, first, tabulate, padded};
-ghost use Rattle.tasks.specs.Tables.{andThen};
 ghost use Rattle.tasks.specs.declared.Answer.the-variants.{Accepted};
 ghost use Rattle.plans.specs.Pieces.{noPiece, taskOf, pieceOf};
 ghost use Rattle.plans.specs.Shape.{isLast, checkedPlan};
 ghost use Rattle.dispatch.specs.Choice.{noStand, standOf, StandsOf, found as foundBest};
 ghost use Rattle.dispatch.specs.Jobs.{freshState, runningTask, noJob, noRun, jobOf, lastOf, byRunner, isActive, onceReleased, names as named};
-ghost use Rattle.dispatch.specs.Refusing.{notRun, tooSoon, stillActive, lowest, judgedSets, judged};
+ghost use Rattle.dispatch.specs.Refusing.{notRun, tooSoon, stillActive, judgedSets, judged};
 ghost use Rattle.dispatch.specs.Rules.{total as totalled, endedJob, finishedJob, finish, turnsLate, markedJob, markLate, firstPiece, releasedJob, release, agedJob, age as aged, highest, chosen, ranJob, run, preempted as pushed, countPreempted};
 ghost use Rattle.dispatch.specs.Sets.{member};
 ghost use Rattle.dispatch.specs.Sound.{Sound, AtPieces, RanTasks};
@@ -149,37 +148,17 @@ fn judge_sets(plan: Plan, state: State, finished: Tasks, released: Tasks) -> Ans
     requires { ⌜ (plan .cores ≤ 16) × (plan .count ≤ 64) ⌝ }
     ensures { λ r. ⌜ r ≡ judgedSets plan state finished released ⌝ }
 {
-    let answer = judge_finished(plan, state, finished);
-    match answer {
-        Answer::Accepted => judge_released(plan, state.finish(plan, finished), released),
-        Answer::Refused(_) => answer,
+    let ended = marks(finished);
+    let idle = lowest_wrong(ended, not_run(plan, state));
+    if idle < 256 {
+        return Answer::Refused(Refusal::NotRun(TaskNo(idle as u8)));
     }
-}
-
-// Refusal 10.
-fn judge_finished(plan: Plan, state: State, finished: Tasks) -> Answer
-    requires { ⌜ (plan .cores ≤ 16) × (plan .count ≤ 64) ⌝ }
-    ensures { λ r. ⌜ r ≡ lowest finished (notRun plan state) (λ t. Refusal.NotRun t) ⌝ }
-{
-    let t = lowest_wrong(marks(finished), not_run(plan, state));
-    if t < 256 {
-        Answer::Refused(Refusal::NotRun(TaskNo(t as u8)))
-    } else {
-        Answer::Accepted
-    }
-}
-
-// Refusals 11 and 12, in the state after the finishes.
-fn judge_released(plan: Plan, state: State, released: Tasks) -> Answer
-    requires { ⌜ (plan .count ≤ 64) × ((i : ℕ) → plan .count ≤ i → jobOf state i ≡ noJob) ⌝ }
-    ensures { λ r. ⌜ r ≡ andThen (lowest released (tooSoon plan state) (λ t. Refusal.TooSoon t)) (lowest released (stillActive plan state) (λ t. Refusal.StillActive t)) ⌝ }
-{
     let members = marks(released);
     let soon = lowest_wrong(members, too_soon(plan, state));
     if soon < 256 {
         return Answer::Refused(Refusal::TooSoon(TaskNo(soon as u8)));
     }
-    let active = lowest_wrong(members, still_active(plan, state));
+    let active = lowest_wrong(members, still_active(plan, state, ended));
     if active < 256 {
         return Answer::Refused(Refusal::StillActive(TaskNo(active as u8)));
     }
@@ -202,78 +181,51 @@ fn lowest_wrong(members: [bool; 256], wrong: [bool; 256]) -> usize
 
 // Refusal 10 for each task.
 fn not_run(plan: Plan, state: State) -> [bool; 256]
-    requires { ⌜ (plan .cores ≤ 16) × (plan .count ≤ 64) ⌝ }
+    requires { ⌜ plan .cores ≤ 16 ⌝ }
     ensures { λ r. ⌜ r ≡ tabulate 256 (notRun plan state) ⌝ }
 {
-    let ran = ran_marks(plan, state);
     let mut wrong = [true; 256];
-    let mut t = 0;
-    while t < plan.count {
-        wrong[t] = !ran[t];
-        t += 1;
-    }
-    wrong
-}
-
-// Refusal 11 for each task.
-fn too_soon(plan: Plan, state: State) -> [bool; 256]
-    requires { ⌜ plan .count ≤ 64 ⌝ }
-    ensures { λ r. ⌜ r ≡ tabulate 256 (tooSoon plan state) ⌝ }
-{
-    let mut wrong = [true; 256];
-    let mut t = 0;
-    while t < plan.count {
-        wrong[t] = waits(plan.tasks[t], state.jobs[t]);
-        t += 1;
-    }
-    wrong
-}
-
-// Refusal 12 for each task, in a state that has no jobs past the plan's.
-fn still_active(plan: Plan, state: State) -> [bool; 256]
-    requires { ⌜ (plan .count ≤ 64) × ((i : ℕ) → plan .count ≤ i → jobOf state i ≡ noJob) ⌝ }
-    ensures { λ r. ⌜ r ≡ tabulate 256 (stillActive plan state) ⌝ }
-{
-    let mut wrong = [false; 256];
-    let mut t = 0;
-    while t < plan.count {
-        wrong[t] = overruns(plan.tasks[t], state.jobs[t]);
-        t += 1;
-    }
-    wrong
-}
-
-// Which tasks ran in the tick before.
-fn ran_marks(plan: Plan, state: State) -> [bool; 256]
-    requires { ⌜ plan .cores ≤ 16 ⌝ }
-    ensures { λ r. ⌜ r ≡ tabulate 256 (λ t. any (plan .cores) (λ x. named t (lastOf state x))) ⌝ }
-{
-    let mut marks = [false; 256];
     let mut x = 0;
     while x < plan.cores {
         let core = state.last[x];
         let runner = core.runner;
         let task = task_of(runner);
-        marks[task] = marks[task] | is_running(runner);
+        wrong[task] = wrong[task] & !(is_running(runner) & (task < plan.count));
         x += 1;
     }
-    marks
+    wrong
 }
 
-// Once released and at age below p.
-fn waits(task: Task, job: Job) -> bool
-    ensures { λ r. ⌜ r ≡ onceReleased (job .phase) && ltb (job .age) (task .period) ⌝ }
+// Refusal 11 for each task: a finish changes neither an age nor whether there was a release.
+fn too_soon(plan: Plan, state: State) -> [bool; 256]
+    requires { ⌜ plan .count ≤ 64 ⌝ }
+    ensures { λ r. ⌜ ((fs : Tasks) → r ≡ tabulate 256 (tooSoon plan (finish plan fs state))) ⌝ }
 {
-    let phase = job.phase;
-    once_released(phase) & (job.age < task.period)
+    let mut wrong = [true; 256];
+    let mut t = 0;
+    while t < plan.count {
+        let job = state.jobs[t];
+        let phase = job.phase;
+        wrong[t] = once_released(phase) & (job.age < plan.tasks[t].period);
+        t += 1;
+    }
+    wrong
 }
 
-// Active at age p.
-fn overruns(task: Task, job: Job) -> bool
-    ensures { λ r. ⌜ r ≡ isActive (job .phase) && eqb (job .age) (task .period) ⌝ }
+// Refusal 12 for each task, these being the finished ones.
+fn still_active(plan: Plan, state: State, finished: [bool; 256]) -> [bool; 256]
+    requires { ⌜ plan .count ≤ 64 ⌝ }
+    ensures { λ r. ⌜ ((fs : Tasks) → finished ≡ tabulate 256 (member fs) → r ≡ tabulate 256 (stillActive plan (finish plan fs state))) ⌝ }
 {
-    let phase = job.phase;
-    is_active(phase) & (job.age == task.period)
+    let mut wrong = [false; 256];
+    let mut t = 0;
+    while t < plan.count {
+        let job = state.jobs[t];
+        let phase = job.phase;
+        wrong[t] = is_active(phase) & (job.age == plan.tasks[t].period) & !finished[t];
+        t += 1;
+    }
+    wrong
 }
 
 // ---- A well made state.

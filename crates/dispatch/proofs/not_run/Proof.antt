@@ -1,48 +1,55 @@
-use mathlib.Core.Bool.{true, false, not}
-use mathlib.Core.Path.{_≡_, sym, ap, _∙_}
+use mathlib.Core.Bool.{true}
+use mathlib.Core.Path.{_≡_, refl}
 use Prim.Native.Nat.{_-_, _≤_}
 use native.Mathlib.Omega.{arith}
 use borrow.Author.Needs.{needs}
-use Rattle.tasks.proofs.Padded.{padded-turn}
-use Rattle.tasks.proofs.Tabulate.{padded-start}
-use Rattle.tasks.specs.Below.{any, tabulate, padded}
-use Rattle.dispatch.specs.Jobs.{lastOf, names}
-use Rattle.dispatch.specs.Refusing.{notRun}
-use Rattle.dispatch.specs.declared.State.{State}
-use Rattle.dispatch.proofs.Judging.{padded-all, run-in, run-past}
-use Rattle.dispatch.proofs.Walks.{tabulated}
+use Rattle.tasks.proofs.Tabulate.{tabulate-start}
+use Rattle.tasks.specs.Below.{any, tabulate}
+use Rattle.dispatch.proofs.Judging.{notRunOn, none-run, run-more}
 use Rattle.dispatch.proofs.not_run.Statement.{statement}
 use Rattle.dispatch.proofs.not_run.Tie as tie
 
 abbrev Inv-loop : tie.InvT-loop
-Inv-loop plan ran wrong₀ t₀ wrong t = (t ≤ plan .count) × (plan .count ≤ 64) × ((s : State) → ran ≡ tabulate 256 (λ k. any (plan .cores) (λ x. names k (lastOf s x))) → wrong ≡ padded 256 t true (notRun plan s))
+Inv-loop plan state wrong₀ x₀ wrong x = (x ≤ plan .cores) × (plan .cores ≤ 16) × (wrong ≡ tabulate 256 (notRunOn plan state x))
 
 abbrev μ-loop : tie.MeasureT-loop
-μ-loop plan ran wrong₀ t₀ wrong t = plan .count - t
-
-ran-marks-requires : tie.Need-ran-marks-requires Inv-loop μ-loop
-ran-marks-requires c κs = search needs
+μ-loop plan state wrong₀ x₀ wrong x = plan .cores - x
 
 loop-holds : tie.Need-loop-holds Inv-loop μ-loop
-loop-holds c = (search needs, search needs, λ s e. padded-start 256 true _)
+loop-holds c = (search needs, search needs, tabulate-start 256 true _ (none-run (c .args .plan) (c .args .t2)))
+
+mul-core : tie.Need-mul-core Inv-loop μ-loop
+mul-core c = search needs
+
+element-copy-out-core : tie.Need-element-copy-out-core Inv-loop μ-loop
+element-copy-out-core c = search needs
+
+task-of-requires : tie.Need-task-of-requires Inv-loop μ-loop
+task-of-requires c κs = search needs
 
 array-read-wrong : tie.Need-array-read-wrong Inv-loop μ-loop
 array-read-wrong c = search needs
 
+is-running-requires : tie.Need-is-running-requires Inv-loop μ-loop
+is-running-requires c κs = search needs
+
 array-write-wrong : tie.Need-array-write-wrong Inv-loop μ-loop
 array-write-wrong c = search needs
 
-add-t : tie.Need-add-t Inv-loop μ-loop
-add-t c = search needs
+add-x : tie.Need-add-x Inv-loop μ-loop
+add-x c = search needs
 
 loop-less : tie.Need-loop-less Inv-loop μ-loop
 loop-less c = search needs
 
 loop-again : tie.Need-loop-again Inv-loop μ-loop
-loop-again c = let b = c .before .before in (search needs, search needs, λ s e. padded-turn 256 true _ _ _ _ (search needs) (b .loop .inv .2 s e) (ap not (sym (tabulated 256 (λ k. any (b .before .before .args .plan .cores) (λ x. names k (lastOf s x))) _ (b .loop .t) false e (omega arith))) ∙ run-in (b .before .before .args .plan) s (b .loop .t) (search needs)))
+loop-again c =
+    let b = c .before .before .before .before .before .before in
+    let t = c .before .before .task-of in
+    (search needs, search needs, run-more (b .before .args .plan) (b .before .args .t2) (b .loop .wrong) (b .loop .x) (t .result) _ _ (b .loop .inv .2) (t .ensures .0) (t .ensures .1) (c .before .is-running .ensures) refl)
 
 returns : tie.Need-returns Inv-loop μ-loop
-returns c = let b = c .before .before in let a = b .before .before .args in let e : b .loop .t ≡ a .plan .count = omega arith in simp (b .loop .inv .2 (a .state) (b .before .ran-marks .ensures), e) (padded-all 256 _ true _ (run-past (a .plan) (a .state)))
+returns c = let e : c .before .before .loop .x ≡ c .before .before .before .args .plan .cores = omega arith in simp (c .before .before .loop .inv .2, e)
 
 pub not-run-spec : {M : Type 1} → statement M
 not-run-spec =
@@ -50,11 +57,14 @@ not-run-spec =
     (tie.spec
     Inv-loop
     μ-loop
-    ran-marks-requires
     loop-holds
+    mul-core
+    element-copy-out-core
+    task-of-requires
     array-read-wrong
+    is-running-requires
     array-write-wrong
-    add-t
+    add-x
     loop-less
     loop-again
     returns)

@@ -1,5 +1,6 @@
 use mathlib.Core.Path.{sym, _∙_}
 use borrow.Author.Needs.{needs}
+use Rattle.dispatch.specs.Refusing.{judged}
 use Rattle.dispatch.specs.Tick.{tick}
 use Rattle.dispatch.proofs.Checked.{taken}
 use Rattle.dispatch.proofs.tick.Statement.{statement}
@@ -12,7 +13,7 @@ enum-told : tie.Need-enum-told
 enum-told c = search needs
 
 next-requires : tie.Need-next-requires
-next-requires c κs = let a = c .before .before .before .args in let t = taken (a .plan) (a .state) (a .finished) (a .released) (sym (c .before .before .judge .ensures) ∙ c .enum-told .given .1) in (t .plan, t .state)
+next-requires c κs = let a = c .before .before .before .args in let t = taken (a .plan) (a .state) (a .finished) (a .released) (sym {b = judged (a .plan) (a .state) (a .finished) (a .released)} (c .before .before .judge .ensures) ∙ c .enum-told .given .1) in (t .plan, t .state)
 
 enum-told-2 : tie.Need-enum-told-2
 enum-told-2 c = search needs
