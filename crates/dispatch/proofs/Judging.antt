@@ -30,7 +30,7 @@ use Rattle.dispatch.specs.declared.Phase.the-variants.{Never, Active, En
 use Rattle.dispatch.specs.declared.State.{State}
 use Rattle.dispatch.specs.declared.Tasks.{Tasks}
 use Rattle.dispatch.proofs.Steps.{finish-out}
-use Rattle.dispatch.proofs.Walks.{tabulated, or-none, running, not-running}
+use Rattle.dispatch.proofs.Walks.{tabulated, and-one, or-none, running, not-running}
 
 -- a list that is padded with what f gives past n is f's table
 pub padded-all : {A : Type 0} (size n : ℕ) (empty : A) (f : ℕ → A) → ((t : ℕ) → n ≤ t → empty ≡ f t) → padded size n empty f ≡ tabulate size f
@@ -65,10 +65,6 @@ module _ (p : Plan) (s : State) where
       tabulate-turn 256 (notRunOn x) (notRunOn (x + 1)) xs t v e l
       (w ∙ rw (o, q, running (lastOf s x), any-more, ← tabulated 256 (notRunOn x) xs (runningTask (lastOf s x)) false e (rw q at l)) (run-here (ltb (runningTask (lastOf s x)) (p .count)) (any x (λ y. names (runningTask (lastOf s x)) (lastOf s y))) (names (runningTask (lastOf s x)) (lastOf s x))))
       (λ i d. rw any-more (same-run (ltb i (p .count)) (any x (λ y. names i (lastOf s y))) (not-running (lastOf s x) i (λ b. d (b ∙ sym q)))))
-
-and-one : (a : Bool) → a && true ≡ a
-and-one true = refl
-and-one false = refl
 
 -- refusals 11 and 12 after the finishes, told of the jobs before them
 module _ (p : Plan) (few : p .count ≤ 64) (s : State) (fs : Tasks) (t : ℕ) where

@@ -1,6 +1,6 @@
 -- Tables over the tasks that a walk fills: the members of a set, the tasks that ran, and the first piece of each task.
 use mathlib.Core.Path.{_≡_, refl, sym, _∙_}
-use mathlib.Core.Bool.{Bool, true, false, _||_, cond}
+use mathlib.Core.Bool.{Bool, true, false, _&&_, _||_, cond}
 use mathlib.Core.List.{List}
 use Prim.Native.Nat.{ℕ, suc, _+_, _≤_, _<_, min}
 use native.Mathlib.Decide.{decLt}
@@ -17,6 +17,10 @@ use Rattle.tasks.proofs.Tabulate.{tabulate-turn}
 use Rattle.dispatch.specs.Jobs.{byRunner, runningTask, names}
 use Rattle.dispatch.specs.declared.Runner.{Runner}
 use Rattle.dispatch.specs.declared.Runner.the-variants.{Idle, Runs}
+
+pub and-one : (a : Bool) → a && true ≡ a
+and-one true = refl
+and-one false = refl
 
 pub or-none : (a : Bool) {b : Bool} → b ≡ false → a ≡ a || b
 or-none true h = refl

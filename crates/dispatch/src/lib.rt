@@ -1,6 +1,5 @@
 // The dispatcher: jobs, what runs on a core, the state, sets of tasks, and one tick.
 ghost use mathlib.Core.Bool.{true, false, _&&_, cond};
-ghost use mathlib.Core.List.{List};
 ghost use mathlib.Core.Path.{_≡_};
 ghost use lib.Dec.{ltb, eqb};
 ghost use lib.ListN.{length, getD};
@@ -16,7 +15,7 @@ ghost use Rattle.dispatch.specs.Rules.{total as totalled, endedJob, fini
 ghost use Rattle.dispatch.specs.Sets.{member};
 ghost use Rattle.dispatch.specs.Sound.{Sound, AtPieces, RanTasks};
 ghost use Rattle.dispatch.specs.Tick.{nextState, tick as ticked};
-ghost use Rattle.dispatch.specs.WellMade.{ageFits, pieceExists, atNoPiece, jobWellMade, coreWellMade, wellMade};
+ghost use Rattle.dispatch.specs.WellMade.{jobWellMade, coreWellMade, wellMade};
 use plans::Kind;
 use plans::Piece;
 use plans::Plan;
@@ -239,9 +238,8 @@ fn jobs_well_made(plan: Plan, state: State) -> bool
     let mut i = 0;
     while i < count {
         let job = state.jobs[i];
-        let place = place_of(job);
-        let piece = piece_or_none(place, plan.pieces[smaller(place, 127)]);
-        good = good & job_well_made(i, plan.tasks[i], job, piece, plan.placed);
+        let here = plan.pieces[smaller(place_of(job), 127)];
+        good = good & job_well_made(i, plan.tasks[i], job, here, plan.placed);
         i += 1;
     }
     good
@@ -259,64 +257,34 @@ fn cores_well_made(plan: Plan, state: State) -> bool
     while x < cores {
         let core = state.last[x];
         let runner = core.runner;
+        let runs = is_running(runner);
         let task = task_of(runner);
         let job = state.jobs[smaller(task, 63)];
         let phase = job.phase;
-        good = good & core_well_made(runner, (task < count) & once_released(phase), seen[task]);
-        seen[task] = seen[task] | is_running(runner);
+        good = good & (!runs | ((task < count) & once_released(phase) & !seen[task]));
+        seen[task] = seen[task] | runs;
         x += 1;
     }
     good
 }
 
-// Task i's job is as a well made state has it, `piece` being the one that it is at.
-fn job_well_made(i: usize, task: Task, job: Job, piece: Piece, placed: usize) -> bool
-    ensures { λ r. ⌜ ((p : Plan) → taskOf p i ≡ task → p .placed ≡ placed → pieceOf p (job .piece) ≡ piece → r ≡ jobWellMade p i job) ⌝ }
+// Is task i's job as a well made state has it, `here` being the piece that it is at or, past the list, any other?
+fn job_well_made(i: usize, task: Task, job: Job, here: Piece, placed: usize) -> bool
+    ensures { λ r. ⌜ ((p : Plan) → length (p .pieces) ≡ 128 → taskOf p i ≡ task → p .placed ≡ placed → pieceOf p (min (job .piece) 127) ≡ here → r ≡ jobWellMade p i job) ⌝ }
 {
+    let place = place_of(job);
+    let fits = (1 <= job.age) & (job.age <= task.period);
+    let exists = (place < placed)
+        & (place < 128)
+        & (here.task.index() == i)
+        & (job.ran < here.cost);
+    let nowhere = (job.piece == 0) & (job.ran == 0) & !job.late;
     let phase = job.phase;
     match phase {
-        Phase::Never => (job.age == 0) & at_no_piece(job),
-        Phase::Active => age_fits(task, job) & piece_exists(i, job, piece, placed),
-        Phase::Ended => age_fits(task, job) & at_no_piece(job),
+        Phase::Never => (job.age == 0) & nowhere,
+        Phase::Active => fits & exists,
+        Phase::Ended => fits & nowhere,
     }
-}
-
-// A core's last task is none, or a task of the plan that was once released and stands on no lower core.
-fn core_well_made(runner: Runner, released: bool, seen: bool) -> bool
-    ensures { λ r. ⌜ ((p : Plan) (s : State) (x : ℕ) → lastOf s x ≡ runner → ltb (runningTask runner) (p .count) && onceReleased (jobOf s (runningTask runner) .phase) ≡ released → any x (λ y. named (runningTask runner) (lastOf s y)) ≡ seen → r ≡ coreWellMade p s x) ⌝ }
-{
-    match runner {
-        Runner::Idle => true,
-        Runner::Runs(_) => released & !seen,
-    }
-}
-
-// An age of at least 1 and at most the period.
-fn age_fits(task: Task, job: Job) -> bool
-    ensures { λ r. ⌜ ((p : Plan) (i : ℕ) → taskOf p i ≡ task → r ≡ ageFits p i job) ⌝ }
-{
-    (1 <= job.age) & (job.age <= task.period)
-}
-
-// Does an active job's piece exist, being task i's, with ticks run there below its cost?
-fn piece_exists(i: usize, job: Job, piece: Piece, placed: usize) -> bool
-    ensures { λ r. ⌜ ((p : Plan) → p .placed ≡ placed → pieceOf p (job .piece) ≡ piece → r ≡ pieceExists p i job) ⌝ }
-{
-    (place_of(job) < placed) & (piece.task.index() == i) & (job.ran < piece.cost)
-}
-
-// Piece, ticks and late mark 0.
-fn at_no_piece(job: Job) -> bool
-    ensures { λ r. ⌜ r ≡ atNoPiece job ⌝ }
-{
-    (job.piece == 0) & (job.ran == 0) & !job.late
-}
-
-// The piece at a place of the plan's list, `here` being the one there or, past the list, any other.
-fn piece_or_none(place: usize, here: Piece) -> Piece
-    ensures { λ r. ⌜ ((pieces : List Piece) → length pieces ≡ 128 → getD pieces (min place 127) noPiece ≡ here → r ≡ getD pieces place noPiece) ⌝ }
-{
-    if place < 128 { here } else { no_piece() }
 }
 
 // ---- The rules of a tick.
@@ -831,22 +799,16 @@ fn no_run() -> CoreRun
 fn no_stand() -> Stand
     ensures { λ r. ⌜ r ≡ noStand ⌝ }
 {
-    let piece = no_piece();
+    let piece = Piece {
+        task: TaskNo(0),
+        core: CoreNo(0),
+        kind: Kind::Whole,
+        cost: 0,
+    };
     Stand {
         active: false,
         last: false,
         piece,
         deadline: 0,
-    }
-}
-
-fn no_piece() -> Piece
-    ensures { λ r. ⌜ r ≡ noPiece ⌝ }
-{
-    Piece {
-        task: TaskNo(0),
-        core: CoreNo(0),
-        kind: Kind::Whole,
-        cost: 0,
     }
 }

@@ -1,6 +1,6 @@
 use mathlib.Core.Bool.{Bool, _||_, false}
-use mathlib.Core.Path.{_≡_, refl, sym, ap, _∙_}
-use Prim.Native.Nat.{min, ℕ, _-_, _≤_}
+use mathlib.Core.Path.{_≡_, refl, ap}
+use Prim.Native.Nat.{min, _-_, _≤_}
 use native.Mathlib.Omega.{arith}
 use lib.ListN.{length, getD, length-map}
 use borrow.Author.Needs.{needs}
@@ -9,7 +9,7 @@ use Rattle.tasks.specs.Below.{all, any, tabulate}
 use Rattle.plans.specs.declared.Plan.{Plan}
 use Rattle.dispatch.specs.Jobs.{lastOf, names}
 use Rattle.dispatch.specs.WellMade.{coreWellMade}
-use Rattle.dispatch.proofs.Making.{released-says, all-turn, cores-read}
+use Rattle.dispatch.proofs.Making.{core-says, all-turn, cores-read}
 use Rattle.dispatch.proofs.Walks.{ran-more, tabulated}
 use Rattle.dispatch.proofs.cores_well_made.Statement.{statement}
 use Rattle.dispatch.proofs.cores_well_made.Tie as tie
@@ -36,6 +36,9 @@ mul-core c = search needs
 element-copy-out-core : tie.Need-element-copy-out-core Inv-loop μ-loop
 element-copy-out-core c = search needs
 
+is-running-requires : tie.Need-is-running-requires Inv-loop μ-loop
+is-running-requires c κs = search needs
+
 task-of-requires : tie.Need-task-of-requires Inv-loop μ-loop
 task-of-requires c κs = search needs
 
@@ -51,17 +54,11 @@ element-copy-out-job c = search needs
 once-released-requires : tie.Need-once-released-requires Inv-loop μ-loop
 once-released-requires c κs = search needs
 
-array-read-core-well-made : tie.Need-array-read-core-well-made Inv-loop μ-loop
-array-read-core-well-made c = search needs
-
-core-well-made-requires : tie.Need-core-well-made-requires Inv-loop μ-loop
-core-well-made-requires c κs = search needs
+array-read-good : tie.Need-array-read-good Inv-loop μ-loop
+array-read-good c = search needs
 
 array-read-seen : tie.Need-array-read-seen Inv-loop μ-loop
 array-read-seen c = search needs
-
-is-running-requires : tie.Need-is-running-requires Inv-loop μ-loop
-is-running-requires c κs = search needs
 
 array-write-seen : tie.Need-array-write-seen Inv-loop μ-loop
 array-write-seen c = search needs
@@ -74,13 +71,14 @@ loop-less c = search needs
 
 loop-again : tie.Need-loop-again Inv-loop μ-loop
 loop-again c =
-    let b = c .before .before .before .before .before .before .before .before in
-    let s = c .before .before .before .before .before .before .before .before .before .before .before .args .t2 in
-    let l : length (s .jobs) ≡ 64 = simp length-map at (c .before .before .before .before .before .before .before .before .before .before .before .good .1 .0 .1 .1 .0 .1 .0 .1) in
-    let t = c .before .before .before .before .before .task-of in
-    let ran = ran-more 256 (lastOf s) (b .loop .seen) (b .loop .x) (t .result) _ (b .loop .inv .2) (t .ensures .0) (t .ensures .1) (ap (λ (w : Bool). getD (b .loop .seen) (t .result) false || w) (c .is-running .ensures)) in
-    let before = ap (λ (k : ℕ). any (b .loop .x) (λ y. names k (lastOf s y))) (sym (t .ensures .0)) ∙ tabulated 256 (λ k. any (b .loop .x) (λ y. names k (lastOf s y))) (b .loop .seen) (t .result) false (b .loop .inv .2) (t .ensures .1) in
-    (search needs, search needs, ran, λ p e. all-turn _ _ _ _ (b .loop .inv .3 p e) (c .before .core-well-made .ensures p s (b .loop .x) refl (released-says s (p .count) _ (t .result) _ _ (lastOf s (b .loop .x)) l (t .ensures .0) e (c .before .before .before .before .smaller3 .ensures) (c .before .before .once-released .ensures)) before))
+    let b = c .before .before .before .before .before .before .before in
+    let s = b .before .before .before .args .t2 in
+    let l : length (s .jobs) ≡ 64 = simp length-map at (c .before .before .before .before .before .before .before .before .before .before .good .1 .0 .1 .1 .0 .1 .0 .1) in
+    let t = c .before .before .before .task-of in
+    let on = c .before .before .before .before .is-running .ensures in
+    let ran = ran-more 256 (lastOf s) (b .loop .seen) (b .loop .x) (t .result) _ (b .loop .inv .2) (t .ensures .0) (t .ensures .1) (ap (λ (w : Bool). getD (b .loop .seen) (t .result) false || w) on) in
+    let before = tabulated 256 (λ k. any (b .loop .x) (λ y. names k (lastOf s y))) (b .loop .seen) (t .result) false (b .loop .inv .2) (t .ensures .1) in
+    (search needs, search needs, ran, λ p e. all-turn _ _ _ _ (b .loop .inv .3 p e) (core-says s p (b .loop .x) _ (t .result) _ _ _ _ l (t .ensures .0) e (c .before .before .smaller3 .ensures) on (c .once-released .ensures) before))
 
 returns : tie.Need-returns Inv-loop μ-loop
 returns c =
@@ -100,15 +98,14 @@ cores-well-made-spec =
     loop-holds
     mul-core
     element-copy-out-core
+    is-running-requires
     task-of-requires
     smaller-requires-3
     mul-job
     element-copy-out-job
     once-released-requires
-    array-read-core-well-made
-    core-well-made-requires
+    array-read-good
     array-read-seen
-    is-running-requires
     array-write-seen
     add-x
     loop-less

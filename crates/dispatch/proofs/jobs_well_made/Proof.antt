@@ -1,5 +1,5 @@
 use mathlib.Core.Path.{_≡_, refl, sym, ap, _∙_}
-use Prim.Native.Nat.{min, _-_, _≤_}
+use Prim.Native.Nat.{ℕ, min, _-_, _≤_}
 use native.Mathlib.Omega.{arith}
 use lib.ListN.{length, length-map}
 use borrow.Author.Needs.{needs}
@@ -36,14 +36,11 @@ place-of-requires c κs = search needs
 smaller-requires-2 : tie.Need-smaller-requires-2 Inv-loop μ-loop
 smaller-requires-2 c κs = search needs
 
-mul-piece-or-none : tie.Need-mul-piece-or-none Inv-loop μ-loop
-mul-piece-or-none c = search needs
+mul-here : tie.Need-mul-here Inv-loop μ-loop
+mul-here c = search needs
 
-element-copy-out-piece-or-none : tie.Need-element-copy-out-piece-or-none Inv-loop μ-loop
-element-copy-out-piece-or-none c = search needs
-
-piece-or-none-requires : tie.Need-piece-or-none-requires Inv-loop μ-loop
-piece-or-none-requires c κs = search needs
+element-copy-out-here : tie.Need-element-copy-out-here Inv-loop μ-loop
+element-copy-out-here c = search needs
 
 mul-job-well-made : tie.Need-mul-job-well-made Inv-loop μ-loop
 mul-job-well-made c = search needs
@@ -62,11 +59,11 @@ loop-less c = search needs
 
 loop-again : tie.Need-loop-again Inv-loop μ-loop
 loop-again c =
-    let b = c .before .before .before .before .before .before .before .before in
-    let p = c .before .before .before .before .before .before .before .before .before .before .args .t1 in
-    let l : length (p .pieces) ≡ 128 = simp length-map at (c .before .before .before .before .before .before .before .before .before .before .good .0 .1 .1 .1 .1 .1 .1 .0 .1 .0 .1) in
-    let q = c .before .before .piece-or-none .ensures (p .pieces) l (ap (pieceOf p) (sym (c .before .before .before .before .smaller2 .ensures))) ∙ ap (pieceOf p) (c .before .before .before .before .before .place-of .ensures .0) in
-    (search needs, search needs, all-turn _ _ _ _ (b .loop .inv .2) (c .job-well-made .ensures p refl refl (sym q)))
+    let b = c .before .before .before .before .before .before .before in
+    let p = b .before .before .args .t1 in
+    let l : length (p .pieces) ≡ 128 = simp length-map at (c .before .before .before .before .before .before .before .before .before .good .0 .1 .1 .1 .1 .1 .1 .0 .1 .0 .1) in
+    let e = ap (pieceOf p) (sym (c .before .before .before .smaller2 .ensures ∙ ap (λ (k : ℕ). min k 127) (c .before .before .before .before .place-of .ensures .0))) in
+    (search needs, search needs, all-turn _ _ _ _ (b .loop .inv .2) (c .job-well-made .ensures p l refl refl e))
 
 returns : tie.Need-returns Inv-loop μ-loop
 returns c =
@@ -87,9 +84,8 @@ jobs-well-made-spec =
     element-copy-out-job
     place-of-requires
     smaller-requires-2
-    mul-piece-or-none
-    element-copy-out-piece-or-none
-    piece-or-none-requires
+    mul-here
+    element-copy-out-here
     mul-job-well-made
     element-copy-out-job-well-made
     job-well-made-requires
