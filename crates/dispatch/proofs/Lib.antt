@@ -2,6 +2,7 @@ pub mod Walks
 pub mod Highest
 pub mod Choosing
 pub mod Making
+pub mod Reading
 pub mod Judging
 pub mod Checked
 pub mod Sitting

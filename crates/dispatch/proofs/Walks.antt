@@ -1,17 +1,16 @@
 -- Tables over the tasks that a walk fills: the members of a set, the tasks that ran, and the first piece of each task.
-use mathlib.Core.Path.{_≡_, refl, sym, _∙_}
+use mathlib.Core.Path.{_≡_, refl, sym, ap, _∙_}
 use mathlib.Core.Bool.{Bool, true, false, _&&_, _||_, cond}
 use mathlib.Core.List.{List}
-use Prim.Native.Nat.{ℕ, suc, _+_, _≤_, _<_, min}
-use native.Mathlib.Decide.{decLt}
-use native.Mathlib.Nat.{min-eq-left, min-eq-right}
-use native.Mathlib.Numerals.{add-one}
+use Prim.Native.Nat.{ℕ, suc, _+_, _≤_, _<_}
+use native.Mathlib.Decide.{ℕ-discrete, decLt}
 use native.Mathlib.Omega.{arith}
-use lib.Dec.{eqb}
+use lib.Dec.{leb, eqb}
 use lib.ListN.{length, getD, set, replicate, length-replicate, getD-replicate, List·getD-eq-default}
-use borrow.Author.Tests.{eq-eqb, ne-eqb}
+use borrow.Author.Tests.{le-leb, lt-leb, eq-eqb, ne-eqb}
 use Rattle.tasks.specs.Below.{any, first, count, tabulate, padded}
-use Rattle.tasks.proofs.Below.{count-more, any-more, first-holds, first-none}
+use Rattle.tasks.proofs.Below.{count-more, any-more, any-none, first-none, first-is, first-same}
+use Rattle.tasks.proofs.Bools.{not-second}
 use Rattle.tasks.proofs.Padded.{tabulate-at, padded-in}
 use Rattle.tasks.proofs.Tabulate.{tabulate-turn}
 use Rattle.dispatch.specs.Jobs.{byRunner, runningTask, names}
@@ -79,40 +78,28 @@ ran-more n r xs x t v e q l w =
     now = rw q (running (r x))
 
 -- ---- first places
-module _ (m : ℕ → ℕ) (all : ℕ) where
-  -- the first of the places below j that holds i, or `all`
-  abbrev pub firstBefore : ℕ → ℕ → ℕ
-  firstBefore j i = cond (any j (λ k. eqb (m k) i)) (first j (λ k. eqb (m k) i)) all
+module _ (m : ℕ → ℕ) (n : ℕ) where
+  -- the first of the places from j on that holds i, or n
+  abbrev pub firstFrom : ℕ → ℕ → ℕ
+  firstFrom j i = first n (λ k. leb j k && eqb (m k) i)
 
-  at-place : (j i : ℕ) (f : ℕ → Bool) → j < all → f j ≡ true → min (cond (any j f) (first j f) all) j ≡ cond (any (suc j) f) (first (suc j) f) all
-  unfolding any first
-  at-place j i f l e = go _ refl
-    where
-      go : (b : Bool) → any j f ≡ b → min (cond (any j f) (first j f) all) j ≡ cond (any j f || f j) (cond (any j f) (first j f) (cond (f j) j (suc j))) all
-      go true u = rw u (min-eq-left (omega (arith, first-holds j f u .0)))
-      go false u = rw (u, e) (min-eq-right (omega arith))
+  pub firsts-start : (i : ℕ) → n ≡ firstFrom n i
+  firsts-start i = sym (first-none n _ (any-none n _ (λ k l. rw (lt-leb n k l))))
 
-  off-place : (j i : ℕ) (f : ℕ → Bool) → f j ≡ false → cond (any j f) (first j f) all ≡ cond (any (suc j) f) (first (suc j) f) all
-  unfolding any first
-  off-place j i f e = go _ refl
+  -- one place earlier is one store
+  pub firsts-more : (xs : List ℕ) (i j t : ℕ) → i ≡ suc j → xs ≡ tabulate 256 (firstFrom i) → j < n → t ≡ m j → t < 256 → set xs t j ≡ tabulate 256 (firstFrom j)
+  firsts-more xs i j t w e l q b =
+      tabulate-turn 256 (firstFrom (suc j)) (firstFrom j) xs t j (e ∙ ap (λ (k : ℕ). tabulate 256 (firstFrom k)) w) b
+      (sym (first-is n _ j l (rw (le-leb j j (omega arith), eq-eqb (m j) t (sym q))) (λ k h. rw (lt-leb j k h))))
+      (λ i d. first-same n (λ k. leb (suc j) k && eqb (m k) i) (λ k. leb j k && eqb (m k) i) (λ k h. off k i d (ℕ-discrete k j)))
     where
-      go : (b : Bool) → any j f ≡ b → cond (any j f) (first j f) all ≡ cond (any j f || f j) (cond (any j f) (first j f) (cond (f j) j (suc j))) all
-      go true u = rw u
-      go false u = rw (u, e)
+      off : (k i : ℕ) → (i ≡ t → ⊥) → Dec (k ≡ j) → leb (suc j) k && eqb (m k) i ≡ leb j k && eqb (m k) i
+      off k i d (yes w) = rw (w, ne-eqb (m j) i (λ z. d (sym z ∙ sym q))) (not-second (leb (suc j) j) {b = false} refl ∙ sym (not-second (leb j j) {b = false} refl))
+      off k i d (no w) = go (decLt j k)
+        where
+          go : Dec (j < k) → leb (suc j) k && eqb (m k) i ≡ leb j k && eqb (m k) i
+          go (yes h) = rw (le-leb (suc j) k h, le-leb j k (omega arith))
+          go (no h) = rw (lt-leb (suc j) k (omega arith), lt-leb j k (omega arith))
 
-  pub firsts-more : (n : ℕ) (xs : List ℕ) (j t v : ℕ) → xs ≡ tabulate n (firstBefore j) → t ≡ m j → t < n → j < all → v ≡ min (getD xs t 0) j → set xs t v ≡ tabulate n (firstBefore (j + 1))
-  firsts-more n xs j t v e q l b w =
-      rw (add-one)
-      (tabulate-turn n (firstBefore j) (firstBefore (suc j)) xs t v e l
-      (w ∙ rw here (at-place j t (λ k. eqb (m k) t) b (eq-eqb (m j) t (sym q))))
-      (λ i d. off-place j i (λ k. eqb (m k) i) (ne-eqb (m j) i (λ z. d (sym z ∙ sym q)))))
-    where
-      here : getD xs t 0 ≡ firstBefore j t
-      here = rw e (tabulate-at n (firstBefore j) t 0 l)
-
-  pub firsts-all : (i : ℕ) → firstBefore all i ≡ first all (λ k. eqb (m k) i)
-  firsts-all i = go _ refl
-    where
-      go : (b : Bool) → any all (λ k. eqb (m k) i) ≡ b → firstBefore all i ≡ first all (λ k. eqb (m k) i)
-      go true u = rw u
-      go false u = rw u (sym (first-none all _ u))
+  pub firsts-all : (i : ℕ) → firstFrom 0 i ≡ first n (λ k. eqb (m k) i)
+  firsts-all i = first-same n _ (λ k. eqb (m k) i) (λ k l. rw (le-leb 0 k (omega arith)))

@@ -5,7 +5,6 @@ use Prim.Native.Nat.{ℕ, zero, suc, _+_, min}
 use lib.Dec.{ltb, eqb}
 use Rattle.tasks.specs.Below.{first, count, padded}
 use Rattle.tasks.specs.Tables.{taskNo}
-use Rattle.tasks.specs.declared.Task.{Task}
 use Rattle.plans.specs.Pieces.{taskOf, pieceOf}
 use Rattle.plans.specs.Rank.{above}
 use Rattle.plans.specs.Shape.{isLast}

@@ -1,5 +1,4 @@
 -- One tick: the rules in their order, or a refusal.
-use Prim.Native.Nat.{ℕ}
 use lib.ListN.{replicate}
 use Rattle.tasks.specs.declared.Answer.{Answer}
 use Rattle.tasks.specs.declared.Answer.the-variants.{Accepted, Refused}

@@ -1,17 +1,16 @@
 // The dispatcher: jobs, what runs on a core, the state, sets of tasks, and one tick.
 ghost use mathlib.Core.Bool.{true, false, _&&_, cond};
 ghost use mathlib.Core.Path.{_≡_};
-ghost use lib.Dec.{ltb, eqb};
 ghost use lib.ListN.{length, getD};
 ghost use Prim.Native.Nat.{ℕ, _+_, _≤_, _<_, min};
-ghost use Rattle.tasks.specs.Below.{all, any, first, tabulate, padded};
+ghost use Rattle.tasks.specs.Below.{all, first, tabulate, padded};
 ghost use Rattle.tasks.specs.declared.Answer.the-variants.{Accepted};
-ghost use Rattle.plans.specs.Pieces.{noPiece, taskOf, pieceOf};
+ghost use Rattle.plans.specs.Pieces.{taskOf, pieceOf};
 ghost use Rattle.plans.specs.Shape.{isLast, checkedPlan};
 ghost use Rattle.dispatch.specs.Choice.{noStand, standOf, StandsOf, found as foundBest};
-ghost use Rattle.dispatch.specs.Jobs.{freshState, runningTask, noJob, noRun, jobOf, lastOf, byRunner, isActive, onceReleased, names as named};
+ghost use Rattle.dispatch.specs.Jobs.{freshState, runningTask, noJob, noRun, jobOf, byRunner, isActive, onceReleased, names as named};
 ghost use Rattle.dispatch.specs.Refusing.{notRun, tooSoon, stillActive, judgedSets, judged};
-ghost use Rattle.dispatch.specs.Rules.{total as totalled, endedJob, finishedJob, finish, turnsLate, markedJob, markLate, firstPiece, releasedJob, release, agedJob, age as aged, highest, chosen, ranJob, run, preempted as pushed, countPreempted};
+ghost use Rattle.dispatch.specs.Rules.{total as totalled, endedJob, finishedJob, finish, markLate, firstPiece, releasedJob, release, age as aged, highest, chosen, ranJob, run, countPreempted};
 ghost use Rattle.dispatch.specs.Sets.{member};
 ghost use Rattle.dispatch.specs.Sound.{Sound, AtPieces, RanTasks};
 ghost use Rattle.dispatch.specs.Tick.{nextState, tick as ticked};
@@ -328,8 +327,15 @@ impl State {
         let mut i = 0;
         while i < plan.count {
             let job = self.jobs[i];
-            let turns = turns_late(plan.tasks[i], job);
-            jobs[i] = marked_job(job, turns);
+            let phase = job.phase;
+            let turns = is_active(phase) & (job.age == plan.tasks[i].deadline) & !job.late;
+            jobs[i] = Job {
+                phase,
+                late: turns | job.late,
+                piece: job.piece,
+                age: job.age,
+                ran: job.ran,
+            };
             late += one_if(turns);
             i += 1;
         }
@@ -383,12 +389,13 @@ impl State {
             let place = place_of(job);
             let piece = plan.pieces[place];
             let next = plan.pieces[smaller(place + 1, 127)];
-            let task = plan.tasks[piece.task.index()];
+            let task = piece.task.index();
+            let goes_on = (place + 1 < plan.placed) & (task == next.task.index());
             stands[i] = Stand {
                 active: is_active(phase),
-                last: is_last(plan.placed, place, piece, next),
+                last: !goes_on,
                 piece,
-                deadline: task.deadline,
+                deadline: plan.tasks[task].deadline,
             };
             i += 1;
         }
@@ -425,11 +432,12 @@ impl State {
         while x < plan.cores {
             let ran = after.last[x];
             let before = ran.runner;
-            let job = after.jobs[task_of(before)];
+            let task = task_of(before);
+            let job = after.jobs[task];
             let phase = job.phase;
             let runs = self.last[x];
             let now = runs.runner;
-            count += one_if(preempted(before, is_active(phase), now));
+            count += one_if(is_running(before) & is_active(phase) & !names(task, now));
             x += 1;
         }
         self.preemptions = total(self.preemptions, count);
@@ -445,7 +453,15 @@ impl State {
         let mut jobs = [empty; 64];
         let mut i = 0;
         while i < plan.count {
-            jobs[i] = aged_job(plan.tasks[i], self.jobs[i]);
+            let job = self.jobs[i];
+            let phase = job.phase;
+            jobs[i] = Job {
+                phase,
+                late: job.late,
+                piece: job.piece,
+                age: older(once_released(phase), job.age, plan.tasks[i].period),
+                ran: job.ran,
+            };
             i += 1;
         }
         self.jobs = jobs;
@@ -479,31 +495,6 @@ fn ended_job(job: Job) -> Job
     }
 }
 
-// Rule 2 for one job.
-fn turns_late(task: Task, job: Job) -> bool
-    ensures { λ r. ⌜ ((p : Plan) (i : ℕ) → taskOf p i ≡ task → r ≡ turnsLate p i job) ⌝ }
-{
-    let phase = job.phase;
-    is_active(phase) & (job.age == task.deadline) & !job.late
-}
-
-fn marked_job(job: Job, late: bool) -> Job
-    ensures { λ r. ⌜ ((p : Plan) (i : ℕ) → turnsLate p i job ≡ late → r ≡ markedJob p i job) ⌝ }
-{
-    if late {
-        let phase = job.phase;
-        Job {
-            phase,
-            late,
-            piece: job.piece,
-            age: job.age,
-            ran: job.ran,
-        }
-    } else {
-        job
-    }
-}
-
 // Rule 3 for one job, whose task is among the released ones or not.
 fn released_job(job: Job, released: bool, first: u8) -> Job
     ensures { λ r. ⌜ ((p : Plan) (rs : Tasks) (i : ℕ) → member rs i ≡ released → firstPiece p i ≡ first → r ≡ releasedJob p rs i job) ⌝ }
@@ -521,19 +512,19 @@ fn released_job(job: Job, released: bool, first: u8) -> Job
     }
 }
 
-// The first piece of each task, in one walk over the pieces.
+// The first piece of each task, in one walk over the pieces from the last to the first.
 fn first_pieces(plan: Plan) -> [u8; 256]
     requires { ⌜ plan .placed ≤ 128 ⌝ }
     ensures { λ r. ⌜ r ≡ tabulate 256 (firstPiece plan) ⌝ }
 {
     let placed = plan.placed;
     let mut firsts = [placed as u8; 256];
-    let mut j = 0;
-    while j < placed {
+    let mut j = placed;
+    while 0 < j {
+        j -= 1;
         let piece = plan.pieces[j];
         let task = piece.task.index();
-        firsts[task] = earlier(firsts[task], j as u8);
-        j += 1;
+        firsts[task] = j as u8;
     }
     firsts
 }
@@ -545,7 +536,7 @@ fn ran_job(job: Job, runs: bool, cost: u32, last: bool) -> Job
 {
     let phase = job.phase;
     if runs {
-        if more_left(job.ran, cost) {
+        if (job.ran as u64) + 1 < cost as u64 {
             Job {
                 phase,
                 late: job.late,
@@ -569,45 +560,14 @@ fn ran_job(job: Job, runs: bool, cost: u32, last: bool) -> Job
     }
 }
 
-// Are there ticks left of the cost after one more?
-fn more_left(ran: u32, cost: u32) -> bool
-    ensures { λ r. ⌜ r ≡ ltb (ran + 1) cost ⌝ }
+// A job's age one tick on, up to the period, where it was once released.
+fn older(released: bool, age: u32, period: u32) -> u32
+    ensures { λ r. ⌜ r ≡ cond released (min (age + 1) period) age ⌝ }
 {
-    (ran as u64) + 1 < cost as u64
-}
-
-// Rule 6 for one job.
-fn aged_job(task: Task, job: Job) -> Job
-    ensures { λ r. ⌜ ((p : Plan) (i : ℕ) → taskOf p i ≡ task → r ≡ agedJob p i job) ⌝ }
-{
-    let phase = job.phase;
-    if once_released(phase) {
-        Job {
-            phase,
-            late: job.late,
-            piece: job.piece,
-            age: older(job.age, task.period),
-            ran: job.ran,
-        }
+    if released {
+        if age < period { age + 1 } else { period }
     } else {
-        job
-    }
-}
-
-// An age one tick on, up to the period.
-fn older(age: u32, period: u32) -> u32
-    ensures { λ r. ⌜ r ≡ min (age + 1) period ⌝ }
-{
-    if age < period { age + 1 } else { period }
-}
-
-// Was the task that ran on a core in the tick before, active or not since rule 1, preempted by what runs there now?
-fn preempted(before: Runner, active: bool, now: Runner) -> bool
-    ensures { λ r. ⌜ ((s n : State) (x : ℕ) → lastOf s x ≡ before → isActive (jobOf s (runningTask before) .phase) ≡ active → lastOf n x ≡ now → r ≡ pushed s n x) ⌝ }
-{
-    match before {
-        Runner::Idle => false,
-        Runner::Runs(task) => active & !names(task.index(), now),
+        age
     }
 }
 
@@ -655,18 +615,6 @@ fn better(found: Runner, held: Stand, stand: Stand, task: u8) -> CoreRun
     } else {
         let runner = found;
         CoreRun { runner }
-    }
-}
-
-// Is the piece at j, of the first `placed`, its task's last, `next` being the one after it?
-fn is_last(placed: usize, j: usize, piece: Piece, next: Piece) -> bool
-    requires { ⌜ j < 256 ⌝ }
-    ensures { λ r. ⌜ ((pc : ℕ → Piece) → pc j ≡ piece → (j + 1 < placed → pc (j + 1) ≡ next) → r ≡ isLast pc placed j) ⌝ }
-{
-    if j + 1 < placed {
-        piece.task.index() != next.task.index()
-    } else {
-        true
     }
 }
 
@@ -764,13 +712,6 @@ fn place_of(job: Job) -> usize
 
 // The smaller of two counts.
 fn smaller(a: usize, b: usize) -> usize
-    ensures { λ r. ⌜ r ≡ min a b ⌝ }
-{
-    if a < b { a } else { b }
-}
-
-// The earlier of two places in the plan's list of pieces.
-fn earlier(a: u8, b: u8) -> u8
     ensures { λ r. ⌜ r ≡ min a b ⌝ }
 {
     if a < b { a } else { b }

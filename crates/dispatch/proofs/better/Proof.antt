@@ -1,4 +1,3 @@
-use mathlib.Core.Path.{sym, _∙_}
 use borrow.Author.Needs.{needs}
 use Rattle.dispatch.proofs.Choosing.{better-turn}
 use Rattle.dispatch.proofs.better.Statement.{statement}

@@ -4,7 +4,7 @@ use Prim.Native.Nat.{_-_, _≤_}
 use native.Mathlib.Omega.{arith}
 use borrow.Author.Needs.{needs}
 use Rattle.tasks.proofs.Tabulate.{tabulate-start}
-use Rattle.tasks.specs.Below.{any, tabulate}
+use Rattle.tasks.specs.Below.{tabulate}
 use Rattle.dispatch.proofs.Judging.{notRunOn, none-run, run-more}
 use Rattle.dispatch.proofs.not_run.Statement.{statement}
 use Rattle.dispatch.proofs.not_run.Tie as tie

@@ -1,4 +1,4 @@
-use mathlib.Core.Path.{_≡_, refl}
+use mathlib.Core.Path.{_≡_}
 use Prim.Native.Nat.{_-_, _≤_}
 use native.Mathlib.Omega.{arith}
 use borrow.Author.Needs.{needs}
@@ -7,6 +7,7 @@ use Rattle.tasks.proofs.Tabulate.{padded-start}
 use Rattle.tasks.specs.Below.{padded}
 use Rattle.dispatch.specs.Jobs.{noJob, jobOf}
 use Rattle.dispatch.specs.Rules.{agedJob, age, eachJob}
+use Rattle.dispatch.proofs.Reading.{aged-read}
 use Rattle.dispatch.proofs.State.age.Statement.{statement}
 use Rattle.dispatch.proofs.State.age.Tie as tie
 
@@ -22,20 +23,23 @@ no-job-requires c κs = search needs
 loop-holds : tie.Need-loop-holds Inv-loop μ-loop
 loop-holds c = (search needs, search needs, rw (c .no-job .ensures) (padded-start 64 noJob _))
 
-mul-aged-job : tie.Need-mul-aged-job Inv-loop μ-loop
-mul-aged-job c = search needs
+mul-job : tie.Need-mul-job Inv-loop μ-loop
+mul-job c = search needs
 
-element-copy-out-aged-job : tie.Need-element-copy-out-aged-job Inv-loop μ-loop
-element-copy-out-aged-job c = search needs
+element-copy-out-job : tie.Need-element-copy-out-job Inv-loop μ-loop
+element-copy-out-job c = search needs
 
-mul-aged-job-2 : tie.Need-mul-aged-job-2 Inv-loop μ-loop
-mul-aged-job-2 c = search needs
+once-released-requires : tie.Need-once-released-requires Inv-loop μ-loop
+once-released-requires c κs = search needs
 
-element-copy-out-aged-job-2 : tie.Need-element-copy-out-aged-job-2 Inv-loop μ-loop
-element-copy-out-aged-job-2 c = search needs
+mul-older : tie.Need-mul-older Inv-loop μ-loop
+mul-older c = search needs
 
-aged-job-requires : tie.Need-aged-job-requires Inv-loop μ-loop
-aged-job-requires c κs = search needs
+element-copy-out-older : tie.Need-element-copy-out-older Inv-loop μ-loop
+element-copy-out-older c = search needs
+
+older-requires : tie.Need-older-requires Inv-loop μ-loop
+older-requires c κs = search needs
 
 mul-jobs : tie.Need-mul-jobs Inv-loop μ-loop
 mul-jobs c = search needs
@@ -50,7 +54,7 @@ loop-less : tie.Need-loop-less Inv-loop μ-loop
 loop-less c = search needs
 
 loop-again : tie.Need-loop-again Inv-loop μ-loop
-loop-again c = let b = c .before .before .before .before in (search needs, search needs, padded-turn 64 noJob _ _ _ _ (search needs) (b .loop .inv .2) (c .aged-job .ensures (b .before .before .args .t2) (b .loop .i) refl))
+loop-again c = let b = c .before .before .before .before in let a = b .before .before .args in (search needs, search needs, padded-turn 64 noJob _ _ _ _ (search needs) (b .loop .inv .2) (aged-read (a .t2) (b .loop .i) (jobOf (a .t1) (b .loop .i)) _ _ (c .before .once-released .ensures) (c .older .ensures)))
 
 returns : tie.Need-returns Inv-loop μ-loop
 unfolding age eachJob
@@ -64,11 +68,12 @@ age-spec =
     μ-loop
     no-job-requires
     loop-holds
-    mul-aged-job
-    element-copy-out-aged-job
-    mul-aged-job-2
-    element-copy-out-aged-job-2
-    aged-job-requires
+    mul-job
+    element-copy-out-job
+    once-released-requires
+    mul-older
+    element-copy-out-older
+    older-requires
     mul-jobs
     array-set-from-jobs
     add-i

@@ -1,11 +1,11 @@
-use mathlib.Core.Path.{_≡_, refl, sym, ap, _∙_}
-use Prim.Native.Nat.{ℕ, _-_, _≤_}
+use mathlib.Core.Path.{_≡_, refl}
+use Prim.Native.Nat.{_-_, _≤_}
 use native.Mathlib.Omega.{arith}
 use borrow.Author.Needs.{needs}
 use Rattle.tasks.specs.Below.{sum, count as counted}
-use Rattle.dispatch.specs.Jobs.{jobOf, isActive}
 use Rattle.dispatch.specs.Rules.{preempted, countPreempted}
 use Rattle.dispatch.specs.Sound.{RanTasks}
+use Rattle.dispatch.proofs.Reading.{pushed-read}
 use Rattle.dispatch.proofs.Walks.{count-turn}
 use Rattle.dispatch.proofs.State.count_preempted.Statement.{statement}
 use Rattle.dispatch.proofs.State.count_preempted.Tie as tie
@@ -41,11 +41,14 @@ mul-runs c = search needs
 element-copy-out-runs : tie.Need-element-copy-out-runs Inv-loop μ-loop
 element-copy-out-runs c = search needs
 
+is-running-requires : tie.Need-is-running-requires Inv-loop μ-loop
+is-running-requires c κs = search needs
+
 is-active-requires : tie.Need-is-active-requires Inv-loop μ-loop
 is-active-requires c κs = search needs
 
-preempted-requires : tie.Need-preempted-requires Inv-loop μ-loop
-preempted-requires c κs = search needs
+names-requires : tie.Need-names-requires Inv-loop μ-loop
+names-requires c κs = search needs
 
 one-if-requires : tie.Need-one-if-requires Inv-loop μ-loop
 one-if-requires c κs = search needs
@@ -61,17 +64,16 @@ loop-less c = search needs
 
 loop-again : tie.Need-loop-again Inv-loop μ-loop
 loop-again c =
-    let b = c .before .before .before .before .before .before .before .before .before in
+    let b = c .before .before .before .before .before .before .before .before .before .before in
     let a = b .before .args in
-    let h = ap (λ (k : ℕ). isActive (jobOf (a .t3) k .phase)) (sym (c .before .before .before .before .before .task-of .ensures .0)) ∙ sym (c .before .before .is-active .ensures) in
-    (search needs, search needs, b .loop .inv .2, omega arith, count-turn _ _ _ _ _ (b .loop .inv .4) (c .one-if .ensures .0) (c .before .preempted .ensures (a .t3) (a .t1) (b .loop .x) refl h refl))
+    (search needs, search needs, b .loop .inv .2, omega arith, count-turn _ _ _ _ _ (b .loop .inv .4) (c .one-if .ensures .0) (pushed-read (a .t3) (a .t1) (b .loop .x) _ _ _ _ (c .before .before .before .before .before .before .task-of .ensures .0) (c .before .before .before .is-running .ensures) (c .before .before .is-active .ensures) (c .before .names .ensures)))
 
 total-requires : tie.Need-total-requires Inv-loop μ-loop
 total-requires c κs = search needs
 
 returns : tie.Need-returns Inv-loop μ-loop
 unfolding countPreempted
-returns c = let e : c .before .before .before .loop .x ≡ c .before .before .before .before .args .plan .cores = omega arith in simp (c .total .ensures, c .before .before .before .loop .inv .4, e)
+returns c = let b = c .before .before .before in let e : b .loop .x ≡ b .before .args .plan .cores = omega arith in simp (c .total .ensures, b .loop .inv .4, e)
 
 pub count-preempted-spec : {M : Type 1} → statement M
 count-preempted-spec =
@@ -87,8 +89,9 @@ count-preempted-spec =
     element-copy-out-job
     mul-runs
     element-copy-out-runs
+    is-running-requires
     is-active-requires
-    preempted-requires
+    names-requires
     one-if-requires
     add-count
     add-x

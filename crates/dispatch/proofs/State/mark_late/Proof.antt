@@ -1,4 +1,4 @@
-use mathlib.Core.Path.{_≡_, refl, sym}
+use mathlib.Core.Path.{_≡_, refl}
 use Prim.Native.Nat.{_-_, _≤_}
 use native.Mathlib.Omega.{arith}
 use borrow.Author.Needs.{needs}
@@ -7,6 +7,7 @@ use Rattle.tasks.proofs.Tabulate.{padded-start}
 use Rattle.tasks.specs.Below.{sum, count, padded}
 use Rattle.dispatch.specs.Jobs.{noJob, jobOf}
 use Rattle.dispatch.specs.Rules.{turnsLate, markedJob, markLate, eachJob}
+use Rattle.dispatch.proofs.Reading.{turns-read, marked-read}
 use Rattle.dispatch.proofs.Walks.{count-turn}
 use Rattle.dispatch.proofs.State.mark_late.Statement.{statement}
 use Rattle.dispatch.proofs.State.mark_late.Tie as tie
@@ -30,17 +31,14 @@ mul-job c = search needs
 element-copy-out-job : tie.Need-element-copy-out-job Inv-loop μ-loop
 element-copy-out-job c = search needs
 
-mul-turns-late : tie.Need-mul-turns-late Inv-loop μ-loop
-mul-turns-late c = search needs
+is-active-requires : tie.Need-is-active-requires Inv-loop μ-loop
+is-active-requires c κs = search needs
 
-element-copy-out-turns-late : tie.Need-element-copy-out-turns-late Inv-loop μ-loop
-element-copy-out-turns-late c = search needs
+mul-turns : tie.Need-mul-turns Inv-loop μ-loop
+mul-turns c = search needs
 
-turns-late-requires : tie.Need-turns-late-requires Inv-loop μ-loop
-turns-late-requires c κs = search needs
-
-marked-job-requires : tie.Need-marked-job-requires Inv-loop μ-loop
-marked-job-requires c κs = search needs
+element-copy-out-turns : tie.Need-element-copy-out-turns Inv-loop μ-loop
+element-copy-out-turns c = search needs
 
 mul-jobs : tie.Need-mul-jobs Inv-loop μ-loop
 mul-jobs c = search needs
@@ -61,14 +59,19 @@ loop-less : tie.Need-loop-less Inv-loop μ-loop
 loop-less c = search needs
 
 loop-again : tie.Need-loop-again Inv-loop μ-loop
-loop-again c = let b = c .before .before .before .before .before .before in let p = b .before .before .args .t2 in let h = c .before .before .turns-late .ensures p (b .loop .i) refl in (search needs, search needs, omega arith, count-turn _ _ _ _ _ (b .loop .inv .3) (c .one-if .ensures .0) h, padded-turn 64 noJob _ _ _ _ (search needs) (b .loop .inv .4) (c .before .marked-job .ensures p (b .loop .i) (sym h)))
+loop-again c =
+    let b = c .before .before .before .before .before .before .before in
+    let p = b .before .before .args .t2 in
+    let j = jobOf (b .before .before .args .t1) (b .loop .i) in
+    let h = turns-read p (b .loop .i) j _ (c .before .before .before .before .is-active .ensures) in
+    (search needs, search needs, omega arith, count-turn _ _ _ _ _ (b .loop .inv .3) (c .one-if .ensures .0) h, padded-turn 64 noJob _ _ _ _ (search needs) (b .loop .inv .4) (marked-read p (b .loop .i) j _ h))
 
 total-requires : tie.Need-total-requires Inv-loop μ-loop
 total-requires c κs = search needs
 
 returns : tie.Need-returns Inv-loop μ-loop
 unfolding markLate eachJob
-returns c = let e : c .before .before .loop .i ≡ c .before .before .before .before .args .t2 .count = omega arith in simp (c .total .ensures, c .before .before .loop .inv .4, c .before .before .loop .inv .3, e)
+returns c = let b = c .before .before in let e : b .loop .i ≡ b .before .before .args .t2 .count = omega arith in simp (c .total .ensures, b .loop .inv .4, b .loop .inv .3, e)
 
 pub mark-late-spec : {M : Type 1} → statement M
 mark-late-spec =
@@ -80,10 +83,9 @@ mark-late-spec =
     loop-holds
     mul-job
     element-copy-out-job
-    mul-turns-late
-    element-copy-out-turns-late
-    turns-late-requires
-    marked-job-requires
+    is-active-requires
+    mul-turns
+    element-copy-out-turns
     mul-jobs
     array-set-from-jobs
     one-if-requires

@@ -1,14 +1,14 @@
-use mathlib.Core.Path.{_≡_, refl, ap}
+use mathlib.Core.Path.{_≡_}
 use Prim.Native.Nat.{_-_, _≤_, _<_}
 use native.Mathlib.Omega.{arith}
 use borrow.Author.Needs.{needs}
 use Rattle.tasks.proofs.Padded.{padded-turn}
 use Rattle.tasks.proofs.Tabulate.{padded-start}
 use Rattle.tasks.specs.Below.{padded}
-use Rattle.plans.specs.Pieces.{pieceOf}
 use Rattle.dispatch.specs.Choice.{noStand, standOf}
 use Rattle.dispatch.specs.Sound.{Sound, AtPieces}
 use Rattle.dispatch.proofs.Choosing.{stand-made}
+use Rattle.dispatch.proofs.Reading.{last-read}
 use Rattle.dispatch.proofs.State.stands.Statement.{statement}
 use Rattle.dispatch.proofs.State.stands.Tie as tie
 
@@ -58,17 +58,20 @@ element-copy-out-next c = search needs
 index-requires : tie.Need-index-requires Inv-loop μ-loop
 index-requires c κs = search needs
 
-mul-task : tie.Need-mul-task Inv-loop μ-loop
-mul-task c = search needs
+add-goes-on : tie.Need-add-goes-on Inv-loop μ-loop
+add-goes-on c = search needs
 
-element-copy-out-task : tie.Need-element-copy-out-task Inv-loop μ-loop
-element-copy-out-task c = let b = c .before .before .before .before .before .before .before in omega (arith, b .loop .inv .1 .tasks (c .before .before .before .before .place-of .result) (at-piece (c .before .before .before .before)), b .loop .inv .1 .count, c .index .ensures .0)
+index-requires-2 : tie.Need-index-requires-2 Inv-loop μ-loop
+index-requires-2 c κs = search needs
 
 is-active-requires : tie.Need-is-active-requires Inv-loop μ-loop
 is-active-requires c κs = search needs
 
-is-last-requires : tie.Need-is-last-requires Inv-loop μ-loop
-is-last-requires c κs = search needs
+mul-t15 : tie.Need-mul-t15 Inv-loop μ-loop
+mul-t15 c = search needs
+
+element-copy-out-t30 : tie.Need-element-copy-out-t30 Inv-loop μ-loop
+element-copy-out-t30 c = let b = c .before .before .before .before .before .before .before .before .before in omega (arith, b .loop .inv .1 .tasks (c .before .before .before .before .before .before .place-of .result) (at-piece (c .before .before .before .before .before .before)), b .loop .inv .1 .count, c .before .before .index .ensures .0)
 
 mul-stands : tie.Need-mul-stands Inv-loop μ-loop
 mul-stands c = search needs
@@ -83,7 +86,14 @@ loop-less : tie.Need-loop-less Inv-loop μ-loop
 loop-less c = search needs
 
 loop-again : tie.Need-loop-again Inv-loop μ-loop
-loop-again c = let b = c .before .before .before .before .before .before .before .before .before .before in let s = b .before .before .args .t1 in let p = b .before .before .args .t2 in let l = at-piece (c .before .before .before .before .before .before .before) in (search needs, b .loop .inv .1, b .loop .inv .2, padded-turn 64 noStand _ _ _ _ (omega (arith, b .loop .inv .1 .count)) (b .loop .inv .3) (stand-made p s (b .loop .i) (c .before .before .before .before .before .before .before .place-of .result) (c .before .before .before .index .result) _ _ (c .before .before .before .before .before .before .before .place-of .ensures .0) (c .before .before .before .index .ensures .0) (c .before .is-active .ensures) (c .is-last .ensures (pieceOf p) refl (λ h. ap (pieceOf p) (omega (arith, b .loop .inv .1 .placed, c .before .before .before .before .before .smaller .ensures))))))
+loop-again c =
+    let b = c .before .before .before .before .before .before .before .before .before in
+    let p = b .before .before .args .t2 in
+    let n = b .loop .inv in
+    let place = c .before .before .before .before .before .before .place-of in
+    let task = c .before .before .index in
+    let e = last-read p (place .result) _ (task .result) _ (n .1 .placed) (c .before .before .before .before .smaller .ensures) (task .ensures .0) (c .before .index2 .ensures .0) in
+    (search needs, n .1, n .2, padded-turn 64 noStand _ _ _ _ (omega (arith, n .1 .count)) (n .3) (stand-made p (b .before .before .args .t1) (b .loop .i) (place .result) (task .result) _ _ (place .ensures .0) (task .ensures .0) (c .is-active .ensures) e))
 
 returns : tie.Need-returns Inv-loop μ-loop
 returns c = let e : c .before .loop .i ≡ c .before .before .before .args .t2 .count = omega arith in simp (c .before .loop .inv .3, e)
@@ -106,10 +116,11 @@ stands-spec =
     mul-next
     element-copy-out-next
     index-requires
-    mul-task
-    element-copy-out-task
+    add-goes-on
+    index-requires-2
     is-active-requires
-    is-last-requires
+    mul-t15
+    element-copy-out-t30
     mul-stands
     array-set-from-stands
     add-i
