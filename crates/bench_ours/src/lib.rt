@@ -2,6 +2,7 @@
 ghost use Prim.Native.Nat.{_≤_};
 use dispatch::CoreRun;
 use dispatch::Runner;
+use plans::Kind;
 use plans::Plan;
 use tasks::Answer;
 
@@ -15,20 +16,30 @@ fn mix(sum: u64, value: u64) -> u64 {
     std::num::wrapping_add_u64(std::num::wrapping_sub_u64(more, sum), value)
 }
 
-fn of_bool(yes: bool) -> u64 {
-    if yes { 1 } else { 0 }
+fn of_kind(kind: Kind) -> u64 {
+    match kind {
+        Kind::Whole => 0,
+        Kind::Share => 1,
+    }
+}
+
+// The number of pieces, no more than a plan's record has.
+fn pieces_of(placed: usize) -> usize
+    ensures { λ r. ⌜ r ≤ 128 ⌝ }
+{
+    if placed < 128 { placed } else { 128 }
 }
 
 // The checksum of a plan's pieces: task, core, kind and cost of each.
 fn of_plan(plan: Plan) -> u64 {
-    let n = plan.placed;
+    let n = pieces_of(plan.placed);
     let mut sum: u64 = 0;
     for j in 0..n {
-        let z = plans::piece_at(plan, j);
+        let z = plan.pieces[j];
         let kind = z.kind;
         let task = mix(sum, z.task.index() as u64);
         let core = mix(task, z.core.index() as u64);
-        sum = mix(mix(core, of_bool(plans::is_share(kind))), z.cost as u64);
+        sum = mix(mix(core, of_kind(kind)), z.cost as u64);
     }
     sum
 }

@@ -11,6 +11,7 @@ pub mod Reached
 pub mod Allowed
 pub mod Putting
 pub mod Searching
+pub mod Trying
 pub mod Placing
 pub mod Shape
 pub mod Certified

@@ -1,12 +1,12 @@
 -- Laws of placing a task, and of the plan that a layout begins with.
-use mathlib.Core.Path.{_≡_, refl, sym, ap, _∙_}
+use mathlib.Core.Path.{_≡_, refl}
 use mathlib.Core.Bool.{Bool, true, false}
-use mathlib.Core.Option.{Option, none, some}
+use mathlib.Core.Option.{none, some}
 use Prim.Native.Nat.{ℕ, zero, suc, _+_, _≤_, _<_}
 use native.Mathlib.Nat.{add-zero, add-suc}
 use native.Mathlib.Numerals.{add-one}
 use native.Mathlib.Omega.{arith}
-use lib.ListN.{length, set, replicate, length-replicate, getD-replicate}
+use lib.ListN.{set, replicate, length-replicate, getD-replicate}
 use Rattle.tasks.proofs.Below.{first-holds, first-none}
 use Rattle.tasks.proofs.Tables.{Ranges, GoodTable, accepted-good}
 use Rattle.tasks.proofs.Padded.{padded-none, padded-more}
@@ -18,10 +18,10 @@ use Rattle.tasks.specs.declared.Refusal.{Refusal}
 use Rattle.tasks.specs.declared.Table.{Table}
 use Rattle.plans.specs.Pieces.{noPiece, taskOf}
 use Rattle.plans.specs.declared.Plan.{Plan}
-use Rattle.layout.proofs.Drafts.{start-task}
+use Rattle.layout.proofs.Drafts.{start-task, ready-alone}
 use Rattle.layout.proofs.Keeps.{place-whole, place-shared, lay-keeps}
-use Rattle.layout.proofs.Reached.{lay-few, lay-moderate}
-use Rattle.layout.specs.Asked.{Ready}
+use Rattle.layout.proofs.Reached.{lay-ready, lay-few, lay-moderate}
+use Rattle.layout.specs.Asked.{Ready, Alone}
 use Rattle.layout.specs.Layout.{start, place, laid, stuck, layFirst, refused, outcome, planned}
 use Rattle.layout.specs.Shared.{shareFrom}
 use Rattle.layout.specs.Whole.{put, draft, wholePiece, takesWhole}
@@ -87,7 +87,7 @@ module _ (t : Table) (good : checkedTable t ≡ Accepted) (i : ℕ) (d : Draft) 
   unfolding start
   table-kept = rw (lay-keeps (start t) i d so-far .tasks) (start-task t good i known)
 
-  pub offered : (d .plan .placed ≤ 80) × Ready (d .plan) i
+  pub offered : (d .plan .placed ≤ 80) × Ready (d .plan) i × Alone (d .plan) i
   unfolding start
   offered =
       let g : GoodTable (t .cores) (t .count) (table.taskOf t) = accepted-good _ _ _ good in
@@ -102,4 +102,5 @@ module _ (t : Table) (good : checkedTable t ≡ Accepted) (i : ℕ) (d : Draft) 
           most = rw table-kept (v .most);
           cores = omega (arith, g .cores, lay-keeps (start t) i d so-far .cores);
         },
+        ready-alone i d (lay-ready t good i (omega arith) d so-far) (omega (arith, lay-few t good i (omega arith) d so-far, g .cores, g .tasks)),
       )

@@ -1,9 +1,12 @@
 // The planner: a task table laid out over the cores of a board.
 ghost use mathlib.Core.Path.{_≡_};
-ghost use Prim.Native.Nat.{ℕ, _≤_, _<_, min};
+ghost use mathlib.Core.Bool.{not, _&&_};
+ghost use Prim.Native.Nat.{_≤_, _<_, min};
+ghost use lib.Dec.{eqb};
 ghost use Rattle.tasks.specs.Below.{all, first};
 ghost use Rattle.plans.specs.Leaves.{Moderate};
 ghost use Rattle.plans.specs.Pieces.{taskOf};
+ghost use Rattle.plans.specs.Shape.{isShare};
 ghost use Rattle.layout.specs.Layout as layouts;
 ghost use Rattle.layout.specs.Layout.{noPlan, start, layFirst, outcome};
 ghost use Rattle.layout.specs.Limit as limits;
@@ -11,7 +14,7 @@ ghost use Rattle.tasks.specs.Tables.{checkedTable};
 ghost use Rattle.tasks.specs.declared.Answer.the-variants.{Accepted};
 ghost use Rattle.layout.specs.Shared.{sharePiece, shareFrom};
 ghost use Rattle.layout.specs.Whole as whole;
-ghost use Rattle.layout.specs.Asked.{Ready, found};
+ghost use Rattle.layout.specs.Asked.{Ready, OwnDeadlines, Alone, found};
 ghost use Rattle.layout.specs.Whole.{draft, keepsBound, takesWhole};
 use plans::Kind;
 use plans::Piece;
@@ -54,35 +57,39 @@ fn with_piece(z: Piece, plan: Plan) -> Plan
     next
 }
 
-// Does piece q, if it is whole and on core x, keep its bound?
-fn keeps_bound(plan: Plan, x: usize, q: usize) -> bool
-    requires { ⌜ (q < plan .placed) × Moderate plan ⌝ }
-    ensures { λ r. ⌜ r ≡ keepsBound plan x q ⌝ }
+// Is piece z whole and on core x?
+fn whole_on(z: Piece, x: usize) -> bool
+    ensures { λ r. ⌜ r ≡ not (isShare (z .kind)) && eqb (z .core .0) x ⌝ }
 {
-    let z = plans::piece_at(plan, q);
-    if z.core.index() != x {
-        return true;
-    }
     let kind = z.kind;
-    if plans::is_share(kind) {
-        return true;
+    match kind {
+        Kind::Whole => z.core.index() == x,
+        Kind::Share => false,
     }
-    let b = plans::bound_of(plan, q);
-    b.bound <= b.deadline
 }
 
 // Does every whole piece on core x keep its bound?
 fn all_keep(plan: Plan, x: usize) -> bool
-    requires { ⌜ Moderate plan ⌝ }
+    requires { ⌜ Moderate plan × OwnDeadlines plan ⌝ }
     ensures { λ r. ⌜ r ≡ all (plan .placed) (keepsBound plan x) ⌝ }
 {
     let n = plan.placed;
-    let mut q = 0;
-    while q < n {
-        if !keeps_bound(plan, x, q) {
+    for q in 0..n {
+        let b = plan.pieces[q];
+        if !whole_on(b, x) {
+            continue;
+        }
+        let i = b.task.index();
+        let d = plan.tasks[i].deadline;
+        let mut load: u32 = 0;
+        for j in 0..n {
+            let z = plan.pieces[j];
+            let k = z.task.index();
+            load += plans::pressure(z, plan.tasks[k], b, d, d);
+        }
+        if d < b.cost + load {
             return false;
         }
-        q += 1;
     }
     true
 }
@@ -99,35 +106,29 @@ fn allowance(plan: Plan, p: u32, q: usize) -> u32
     (b.deadline - b.bound) / ((b.deadline + (p - 1)) / p)
 }
 
-// Is core x open, and does every whole piece there keep its bound with task i added whole?
-fn takes_whole(plan: Plan, closed: [bool; 16], i: usize, x: usize) -> bool
-    requires { ⌜ (plan .placed ≤ 96) × (x < 16) × Ready plan i ⌝ }
-    ensures { λ r. ⌜ r ≡ takesWhole (draft plan closed) i x ⌝ }
-{
-    if closed[x] {
-        return false;
-    }
-    let z = Piece {
-        task: TaskNo(i as u8),
-        core: CoreNo(x as u8),
-        kind: Kind::Whole,
-        cost: plan.tasks[i].cost,
-    };
-    all_keep(with_piece(z, plan), x)
-}
-
 // The lowest core that takes task i whole, or the number of cores.
 fn lowest_whole(plan: Plan, closed: [bool; 16], i: usize) -> usize
-    requires { ⌜ (plan .placed ≤ 96) × Ready plan i ⌝ }
+    requires { ⌜ (plan .placed ≤ 96) × Ready plan i × Alone plan i ⌝ }
     ensures { λ r. ⌜ r ≡ first (plan .cores) (takesWhole (draft plan closed) i) ⌝ }
 {
     let m = plan.cores;
-    let mut x = 0;
-    while x < m {
-        if takes_whole(plan, closed, i, x) {
+    let at = plan.placed;
+    let cost = plan.tasks[i].cost;
+    let mut w = plan;
+    w.placed = at + 1;
+    for x in 0..m {
+        if closed[x] {
+            continue;
+        }
+        w.pieces[at] = Piece {
+            task: TaskNo(i as u8),
+            core: CoreNo(x as u8),
+            kind: Kind::Whole,
+            cost,
+        };
+        if all_keep(w, x) {
             return x;
         }
-        x += 1;
     }
     m
 }
@@ -204,7 +205,7 @@ fn share_out(plan: Plan, closed: [bool; 16], i: usize) -> Shared
 
 // Task i placed: whole on the lowest core that takes it, otherwise shared out.
 fn place(plan: Plan, closed: [bool; 16], i: usize) -> Shared
-    requires { ⌜ (plan .placed ≤ 80) × Ready plan i ⌝ }
+    requires { ⌜ (plan .placed ≤ 80) × Ready plan i × Alone plan i ⌝ }
     ensures { λ r. ⌜ found (r .placed) (draft (r .plan) (r .closed)) ≡ layouts.place (draft plan closed) i ⌝ }
 {
     let x = lowest_whole(plan, closed, i);

@@ -8,10 +8,9 @@ use native.Mathlib.Nat.{le-refl}
 use native.Mathlib.Numerals.{add-one}
 use native.Mathlib.Omega.{arith}
 use lib.Dec.{leb, ltb, eqb}
-use borrow.Author.Tests.{eq-eqb, ne-eqb, eqb-true, lt-ltb, le-ltb, ltb-true, le-leb, lt-leb, leb-true}
+use borrow.Author.Tests.{eq-eqb, ne-eqb, eqb-true, lt-ltb, le-ltb, ltb-true, le-leb, leb-true}
 use Rattle.tasks.proofs.Below.{sum-none}
-use Rattle.tasks.proofs.Bools.{both, one-of}
-use Rattle.tasks.specs.Below.{sum}
+use Rattle.tasks.proofs.Bools.{clash, both, not-first, not-second, one-of}
 use Rattle.tasks.specs.Tables.{checkedTasks}
 use Rattle.tasks.specs.declared.Answer.the-variants.{Accepted, Refused}
 use Rattle.tasks.specs.declared.Refusal.{Refusal}
@@ -23,14 +22,23 @@ use Rattle.plans.specs.Shape.{isShare, sameTask, follows, inOrder, isLas
 use Rattle.plans.specs.declared.Piece.{Piece}
 use Rattle.plans.specs.declared.Plan.{Plan}
 
+or-none : (a : Bool) → a || false ≡ a
+or-none true = refl
+or-none false = refl
+
+not-twice : (a : Bool) → not (not a) ≡ a
+not-twice true = refl
+not-twice false = refl
+
+-- a second test matters only where the first passes
+pub where-so : (a : Bool) {b c : Bool} → (a ≡ true → b ≡ c) → a && b ≡ a && c
+where-so true h = h refl
+where-so false h = refl
+
 module _ (a b : Piece) where
   pub next-follows : b .task .0 ≡ a .task .0 + 1 → follows a b ≡ true
   unfolding follows
   next-follows h = rw (eq-eqb (b .task .0) (a .task .0 + 1) h)
-
-  pub other-follows : (b .task .0 ≡ a .task .0 + 1 → ⊥) → (a .task .0 ≡ b .task .0 → ⊥) → follows a b ≡ false
-  unfolding follows
-  other-follows h k = rw (ne-eqb (b .task .0) (a .task .0 + 1) h, ne-eqb (a .task .0) (b .task .0) k)
 
   pub same-follows : a .task .0 ≡ b .task .0 → follows a b ≡ isShare (a .kind) && isShare (b .kind) && ltb (a .core .0) (b .core .0)
   unfolding follows
@@ -48,26 +56,17 @@ follows-says a b h = go (one-of {a = eqb (b .task .0) (a .task .0 + 1)} h)
         let v : (sameTask a b && isShare (a .kind) ≡ true) × (isShare (b .kind) ≡ true) = both {a = sameTask a b && isShare (a .kind)} (u .0) in
         inr (sym (eqb-true _ _ (both {a = sameTask a b} (v .0) .0)), ltb-true _ _ (u .1))
 
--- b is the next task's or the same task's
-pub follows-task : (a b : Piece) → follows a b ≡ true → (b .task .0 ≡ a .task .0 + 1) ⊎ (a .task .0 ≡ b .task .0)
-follows-task a b h = go (follows-says a b h)
-  where
-    go : (b .task .0 ≡ a .task .0 + 1) ⊎ ((b .task .0 ≡ a .task .0) × (a .core .0 < b .core .0)) → (b .task .0 ≡ a .task .0 + 1) ⊎ (a .task .0 ≡ b .task .0)
-    go (inl e) = inl e
-    go (inr e) = inr (sym (e .0))
-
-pub order-next : (pc : ℕ → Piece) (j : ℕ) → 0 < j → inOrder pc j ≡ follows (pc (j - 1)) (pc j)
+-- whether piece j is in order, by whether it is the first
+pub order-read : (pc : ℕ → Piece) (j : ℕ) → inOrder pc j ≡ (eqb j 0 && eqb (pc j .task .0) 0) || (ltb 0 j && follows (pc (j - 1)) (pc j))
 unfolding inOrder
-order-next pc zero h = absurd (omega arith)
-order-next pc (suc j) h = ap (λ (k : ℕ). follows (pc k) (pc (suc j))) (omega arith)
+order-read pc zero = sym (or-none _)
+order-read pc (suc j) =
+    let e : suc j - 1 ≡ j = omega arith in
+    rw (ne-eqb (suc j) 0 (λ z. omega arith), lt-ltb 0 (suc j) (omega arith), e)
 
 pub last-end : (pc : ℕ → Piece) (n j : ℕ) → n ≤ suc j → isLast pc n j ≡ true
 unfolding isLast
 last-end pc n j h = rw (le-ltb (suc j) n h)
-
-pub last-before : (pc : ℕ → Piece) (n j : ℕ) → suc j < n → isLast pc n j ≡ not (sameTask (pc j) (pc (j + 1)))
-unfolding isLast
-last-before pc n j h = rw (lt-ltb (suc j) n h, add-one)
 
 -- the first k pieces are in order
 module _ (pc : ℕ → Piece) (k : ℕ) (ordered : (j : ℕ) → j < k → inOrder pc j ≡ true) where
@@ -90,34 +89,37 @@ module _ (pc : ℕ → Piece) (k : ℕ) (ordered : (j : ℕ) → j < k → inOrd
   unfolding costs
   costs-later i j h l = sum-none (suc j) _ (λ x b. rw (ne-eqb (pc x .task .0) i (λ e. omega (arith, tasks-rise x j (omega arith) h))))
 
--- the tests of one piece in their order: the first that fails decides
+  -- a whole piece has no piece of its task before it
+  pub whole-first : (q : ℕ) → q < k → isShare (pc q .kind) ≡ false → costs pc (pc q .task .0) q ≡ 0
+  unfolding inOrder
+  whole-first zero h w = costs-none pc _
+  whole-first (suc j) h w = go (step-up j h)
+    where
+      go : (pc (suc j) .task .0 ≡ pc j .task .0 + 1) ⊎ ((pc (suc j) .task .0 ≡ pc j .task .0) × (pc j .core .0 < pc (suc j) .core .0)) → costs pc (pc (suc j) .task .0) (suc j) ≡ 0
+      go (inl s) = costs-later (pc (suc j) .task .0) j (omega arith) (omega arith)
+      go (inr s) = clash (ordered (suc j) h) (same-follows (pc j) (pc (suc j)) (sym (s .0)) ∙ not-first _ (not-second (isShare (pc j .kind)) w))
+
+-- the tests of one piece
 module _ (m count : ℕ) (ts : ℕ → Task) (pc : ℕ → Piece) (n j : ℕ) where
-  pub no-task : count ≤ pc j .task .0 → pieceFits m count ts pc n j ≡ false
-  unfolding pieceFits
-  no-task h = rw (le-ltb (pc j .task .0) count h)
+  -- a piece fits where it is in place, and its task goes on after it or has spent its cost
+  pub fits-read : (more full : Bool) → more ≡ ltb (j + 1) n && sameTask (pc j) (pc (j + 1))
+      → (pc j .task .0 < count → inOrder pc j ≡ true → full ≡ eqb (costs pc (pc j .task .0) (suc j)) (ts (pc j .task .0) .cost))
+      → ltb (pc j .task .0) count && ltb (pc j .core .0) m && leb 1 (pc j .cost) && inOrder pc j && (more || full) ≡ pieceFits m count ts pc n j
+  unfolding pieceFits isLast
+  fits-read more full e h = where-so _ (λ a.
+      let u : (ltb (pc j .task .0) count && ltb (pc j .core .0) m && leb 1 (pc j .cost) ≡ true) × (inOrder pc j ≡ true) = both a in
+      let v : (ltb (pc j .task .0) count && ltb (pc j .core .0) m ≡ true) × (leb 1 (pc j .cost) ≡ true) = both (u .0) in
+      rw (h (ltb-true _ _ (both {a = ltb (pc j .task .0) count} (v .0) .0)) (u .1), e, add-one, not-twice))
 
-  module _ (task : pc j .task .0 < count) where
-    pub no-core : m ≤ pc j .core .0 → pieceFits m count ts pc n j ≡ false
+  -- a piece in place that is not its task's last fits, and its task's last fits by what the task has spent
+  module _ (task : pc j .task .0 < count) (core : pc j .core .0 < m) (cost : 1 ≤ pc j .cost) (order : inOrder pc j ≡ true) where
+    pub more-fits : isLast pc n j ≡ false → pieceFits m count ts pc n j ≡ true
     unfolding pieceFits
-    no-core h = rw (lt-ltb (pc j .task .0) count task, le-ltb (pc j .core .0) m h)
+    more-fits l = rw (lt-ltb (pc j .task .0) count task, lt-ltb (pc j .core .0) m core, le-leb 1 (pc j .cost) cost, order, l)
 
-    module _ (core : pc j .core .0 < m) where
-      pub no-cost : pc j .cost < 1 → pieceFits m count ts pc n j ≡ false
-      unfolding pieceFits
-      no-cost h = rw (lt-ltb (pc j .task .0) count task, lt-ltb (pc j .core .0) m core, lt-leb 1 (pc j .cost) h)
-
-      module _ (cost : 1 ≤ pc j .cost) where
-        pub no-order : inOrder pc j ≡ false → pieceFits m count ts pc n j ≡ false
-        unfolding pieceFits
-        no-order h = rw (lt-ltb (pc j .task .0) count task, lt-ltb (pc j .core .0) m core, le-leb 1 (pc j .cost) cost, h)
-
-        pub more-fits : inOrder pc j ≡ true → isLast pc n j ≡ false → pieceFits m count ts pc n j ≡ true
-        unfolding pieceFits
-        more-fits h l = rw (lt-ltb (pc j .task .0) count task, lt-ltb (pc j .core .0) m core, le-leb 1 (pc j .cost) cost, h, l)
-
-        pub last-fits : inOrder pc j ≡ true → isLast pc n j ≡ true → pieceFits m count ts pc n j ≡ eqb (costs pc (pc j .task .0) (suc j)) (ts (pc j .task .0) .cost)
-        unfolding pieceFits
-        last-fits h l = rw (lt-ltb (pc j .task .0) count task, lt-ltb (pc j .core .0) m core, le-leb 1 (pc j .cost) cost, h, l)
+    pub last-fits : isLast pc n j ≡ true → pieceFits m count ts pc n j ≡ eqb (costs pc (pc j .task .0) (suc j)) (ts (pc j .task .0) .cost)
+    unfolding pieceFits
+    last-fits l = rw (lt-ltb (pc j .task .0) count task, lt-ltb (pc j .core .0) m core, le-leb 1 (pc j .cost) cost, order, l)
 
   -- what a piece that fits is
   pub record Fits : Type 0 where

@@ -1,16 +1,15 @@
 // The vocabulary of plans: pieces, plans, and the margin of a piece; interference, rank and bound; the plan shape.
 ghost use mathlib.Core.Path.{_≡_};
-ghost use mathlib.Core.Bool.{true, _&&_, cond};
-ghost use Prim.Native.Nat.{ℕ, suc, _+_, _-_, _≤_, _<_};
-ghost use lib.Dec.{eqb, ltb};
+ghost use mathlib.Core.Bool.{_&&_, cond};
+ghost use Prim.Native.Nat.{ℕ, _-_, _≤_, _<_, min};
+ghost use lib.Dec.{leb, ltb, eqb};
 ghost use Rattle.plans.specs.Bound as meaning;
 ghost use Rattle.plans.specs.Asking.{boundAsked};
 ghost use Rattle.plans.specs.Bound.{localDeadline};
-ghost use Rattle.plans.specs.Pieces.{noPiece, taskOf, pieceOf, costs};
+ghost use Rattle.plans.specs.Pieces.{taskOf, pieceOf};
 ghost use Rattle.plans.specs.Shape as shaped;
-ghost use Rattle.plans.specs.Shape.{isShare, sameTask, inOrder, isLast, pieceFits, checkedPlan};
+ghost use Rattle.plans.specs.Shape.{isShare, inOrder, pieceFits, checkedPlan};
 ghost use Rattle.tasks.specs.Below.{all};
-ghost use Rattle.tasks.specs.Tables.{noTask};
 ghost use Rattle.plans.specs.Pieces as pieces;
 ghost use Rattle.plans.specs.Interference.{interference};
 ghost use Rattle.plans.specs.Leaves.{Moderate};
@@ -182,39 +181,8 @@ pub fn margin_of(deadline: u32, bound: u32) -> Margin
     }
 }
 
-// The task numbered i, or an empty one past the table.
-pub fn task_at(plan: Plan, i: usize) -> Task
-    ensures { λ r. ⌜ r ≡ taskOf plan i ⌝ }
-{
-    if i < 64 {
-        plan.tasks[i]
-    } else {
-        Task {
-            cost: 0,
-            deadline: 0,
-            period: 0,
-        }
-    }
-}
-
-// The piece at place j, or an empty one past the list.
-pub fn piece_at(plan: Plan, j: usize) -> Piece
-    ensures { λ r. ⌜ r ≡ pieceOf plan j ⌝ }
-{
-    if j < 128 {
-        plan.pieces[j]
-    } else {
-        Piece {
-            task: TaskNo(0),
-            core: CoreNo(0),
-            kind: Kind::Whole,
-            cost: 0,
-        }
-    }
-}
-
 // Is it a share?
-pub fn is_share(k: Kind) -> bool
+fn is_share(k: Kind) -> bool
     ensures { λ r. ⌜ r ≡ isShare k ⌝ }
 {
     match k {
@@ -229,67 +197,16 @@ fn follows(a: Piece, b: Piece) -> bool
 {
     let i = a.task.index();
     let k = b.task.index();
-    if k == i + 1 {
-        return true;
-    }
-    if i != k {
-        return false;
-    }
     let a_kind = a.kind;
     let b_kind = b.kind;
-    if !is_share(a_kind) {
-        return false;
-    }
-    if !is_share(b_kind) {
-        return false;
-    }
-    a.core.index() < b.core.index()
-}
-
-// Does piece j stand where it may, after the one before it?
-fn in_order(plan: Plan, j: usize) -> bool
-    ensures { λ r. ⌜ r ≡ inOrder (pieceOf plan) j ⌝ }
-{
-    let z = piece_at(plan, j);
-    if j == 0 {
-        z.task.index() == 0
-    } else {
-        follows(piece_at(plan, j - 1), z)
-    }
-}
-
-// Is piece j its task's last?
-pub fn is_last(plan: Plan, j: usize) -> bool
-    ensures { λ r. ⌜ r ≡ isLast (pieceOf plan) (plan .placed) j ⌝ }
-{
-    let n = plan.placed;
-    if n <= j {
-        return true;
-    }
-    if n <= j + 1 {
-        return true;
-    }
-    let a = piece_at(plan, j);
-    let b = piece_at(plan, j + 1);
-    a.task.index() != b.task.index()
+    (k == i + 1)
+        | ((i == k) & is_share(a_kind) & is_share(b_kind) & (a.core.index() < b.core.index()))
 }
 
 fn wide(x: u32) -> u64
     ensures { λ r. ⌜ (r ≡ x) × (r < 4294967296) ⌝ }
 {
     x as u64
-}
-
-// Is piece j of the same task as the piece before it?
-fn goes_on(plan: Plan, j: usize) -> bool
-    ensures { λ r. ⌜ r ≡ ltb 0 j && sameTask (pieceOf plan (j - 1)) (pieceOf plan j) ⌝ }
-{
-    if j == 0 {
-        return false;
-    }
-    let a = piece_at(plan, j - 1);
-    let b = piece_at(plan, j);
-    a.task.index() == b.task.index()
 }
 
 // x where it is kept, otherwise 0.
@@ -299,44 +216,41 @@ fn kept(keep: bool, x: u64) -> u64
     if keep { x } else { 0 }
 }
 
-// Is piece j as the shape asks? `total` is what its task's pieces cost up to and with it.
-fn piece_fits(plan: Plan, j: usize, total: u64) -> bool
-    requires { ⌜ (plan .count ≤ 64) × (inOrder (pieceOf plan) j ≡ true → total ≡ costs (pieceOf plan) (pieceOf plan j .task .0) (suc j)) ⌝ }
-    ensures { λ r. ⌜ r ≡ pieceFits (plan .cores) (plan .count) (taskOf plan) (pieceOf plan) (plan .placed) j ⌝ }
+fn smaller(a: usize, b: usize) -> usize
+    ensures { λ r. ⌜ r ≡ min a b ⌝ }
 {
-    let z = piece_at(plan, j);
-    let i = z.task.index();
-    if plan.count <= i {
-        return false;
-    }
-    if plan.cores <= z.core.index() {
-        return false;
-    }
-    if z.cost < 1 {
-        return false;
-    }
-    if !in_order(plan, j) {
-        return false;
-    }
-    if !is_last(plan, j) {
-        return true;
-    }
-    total == wide(plan.tasks[i].cost)
+    if a < b { a } else { b }
 }
 
-// Are all pieces as the shape asks?
+// Has piece z a task below `count`, a core below `cores` and a cost, and is it in order at place j, right after `before`?
+fn in_place(cores: usize, count: usize, j: usize, before: Piece, z: Piece) -> bool
+    ensures { λ r. ⌜ ((pc : ℕ → Piece) → pc (j - 1) ≡ before → pc j ≡ z → r ≡ ltb (z .task .0) count && ltb (z .core .0) cores && leb 1 (z .cost) && inOrder pc j) ⌝ }
+{
+    let first = (j == 0) & (z.task.index() == 0);
+    let later = (0 < j) & follows(before, z);
+    (z.task.index() < count) & (z.core.index() < cores) & (1 <= z.cost) & (first | later)
+}
+
+// Are all pieces as the shape asks? `spent` is what a piece's task costs up to and with it.
 fn pieces_fit(plan: Plan) -> bool
     requires { ⌜ (plan .count ≤ 64) × (plan .placed ≤ 128) ⌝ }
     ensures { λ r. ⌜ r ≡ all (plan .placed) (pieceFits (plan .cores) (plan .count) (taskOf plan) (pieceOf plan) (plan .placed)) ⌝ }
 {
     let n = plan.placed;
+    let mut before = plan.pieces[0];
     let mut spent: u64 = 0;
     let mut j = 0;
     while j < n {
-        spent = kept(goes_on(plan, j), spent) + wide(plan.pieces[j].cost);
-        if !piece_fits(plan, j, spent) {
+        let z = plan.pieces[j];
+        let i = z.task.index();
+        let cost = plan.tasks[smaller(i, 63)].cost;
+        let next = plan.pieces[smaller(j + 1, 127)];
+        let more = (j + 1 < n) & (i == next.task.index());
+        spent = kept((0 < j) & (before.task.index() == i), spent) + wide(z.cost);
+        if !(in_place(plan.cores, plan.count, j, before, z) & (more | (spent == wide(cost)))) {
             return false;
         }
+        before = z;
         j += 1;
     }
     true
@@ -357,7 +271,7 @@ fn shape(plan: Plan) -> bool
     if !pieces_fit(plan) {
         return false;
     }
-    let z = piece_at(plan, n - 1);
+    let z = plan.pieces[n - 1];
     z.task.index() + 1 == plan.count
 }
 
