@@ -9,7 +9,7 @@ use native.Mathlib.Omega.{arith}
 use lib.Dec.{leb, ltb, eqb}
 use borrow.Author.Tests.{eq-eqb, eqb-true, lt-ltb, le-ltb, ltb-true, leb-true, not-false}
 use Rattle.tasks.proofs.Below.{all-each, any-make, first-holds, first-le, sum-up, sum-none}
-use Rattle.tasks.proofs.Bools.{both, one-of}
+use Rattle.tasks.proofs.Bools.{both}
 use Rattle.tasks.specs.Below.{any, first}
 use Rattle.tasks.proofs.Tables.{Ranges, GoodTable, accepted-good}
 use Rattle.tasks.specs.Tables.{checkedTasks}
@@ -25,7 +25,7 @@ use Rattle.plans.specs.Bound.{localDeadline, bound, margin}
 use Rattle.plans.specs.declared.Bounding.the-variants as bounding
 use Rattle.plans.specs.Leaves.{Moderate}
 use Rattle.plans.specs.Pieces.{taskOf, pieceOf, costs, earlier}
-use Rattle.plans.specs.Shape.{isShare, sameTask, follows, inOrder, isLast, pieceFits, shape, checkedPlan}
+use Rattle.plans.specs.Shape.{sameTask, inOrder, isLast, pieceFits, shape, checkedPlan}
 use Rattle.plans.specs.declared.Piece.{Piece}
 use Rattle.plans.specs.declared.Plan.{Plan}
 
@@ -147,6 +147,14 @@ accepted-plan p h = go _ _ refl refl
     go (Refused r) b e f = clashing (sym (tasks-refused p r e) ∙ h)
     go Accepted false e f = clashing (sym (shape-refused p e f) ∙ h)
     go Accepted true e f = record { table = accepted-good _ _ _ e; shaped = f }
+
+-- what a piece's task costs before it, and the piece's local deadline, add up to the task's deadline
+pub deadline-adds : (p : Plan) → checkedPlan p ≡ Accepted → (j : ℕ) → j < p .placed → earlier (pieceOf p) j + localDeadline (taskOf p) (pieceOf p) j ≡ taskOf p (pieceOf p j .task .0) .deadline
+unfolding localDeadline
+deadline-adds p h j l =
+    let g : GoodPlan p = accepted-plan p h in
+    let f : Fits (p .cores) (p .count) (taskOf p) (pieceOf p) (p .placed) j = fits (p .cores) (p .count) (taskOf p) (pieceOf p) (p .placed) (g .shaped) j l in
+    omega (arith, earlier-within (p .cores) (p .count) (taskOf p) (pieceOf p) (p .placed) (g .shaped) j l, g .table .values (pieceOf p j .task .0) (f .task) .short)
 
 -- an accepted plan's numbers are moderate
 pub plan-moderate : (p : Plan) → GoodPlan p → Moderate p
