@@ -67,7 +67,7 @@ fn of_runs(sum: u64, runs: [CoreRun; 16], cores: usize) -> u64 {
 // The table file planned; 0 on a refusal.
 #[no_mangle]
 pub extern "C" fn bench_ours_plan(table: &[u8]) -> u64 {
-    let read = files::read_table(table);
+    let read = reading::read_table(table);
     let given = read.table;
     let planned = layout::plan_table(given);
     let answer = planned.answer;
@@ -80,7 +80,7 @@ pub extern "C" fn bench_ours_plan(table: &[u8]) -> u64 {
 // Ticks of the plan file from a fresh state, every task released as soon as allowed; 0 on a refusal.
 #[no_mangle]
 pub extern "C" fn bench_ours_ticks(plan: &[u8], count: u32) -> u64 {
-    let read = files::read_plan(plan);
+    let read = reading::read_plan(plan);
     let plan = read.plan;
     let mut state = dispatch::fresh();
     let mut sum: u64 = 0;

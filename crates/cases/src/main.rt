@@ -3,19 +3,19 @@ use dispatch::Job;
 use dispatch::Phase;
 use dispatch::State;
 use dispatch::Tasks;
-use files::InForce;
-use files::ReadTable;
-use files::Written;
+use force::InForce;
 use libc::STDOUT_FILENO;
 use plans::Bounding;
 use plans::Kind;
 use plans::Piece;
 use plans::Plan;
+use reading::ReadTable;
 use tasks::Answer;
 use tasks::CoreNo;
 use tasks::Table;
 use tasks::Task;
 use tasks::TaskNo;
+use writing::Written;
 
 fn say(words: &[u8]) {
     io::write_all(STDOUT_FILENO, words);
@@ -79,20 +79,20 @@ fn periods() {
     say(b"period 1000001: ");
     say_answer(tasks::check_table(table(1, 1000001)));
     say(b"period 1000000 in a file: ");
-    say_read(files::read_table(&[2, 0, 12, 0, 0, 0, 6, 0, 0, 0, 10, 0, 15, 66, 64]));
+    say_read(reading::read_table(&[2, 0, 12, 0, 0, 0, 6, 0, 0, 0, 10, 0, 15, 66, 64]));
     say(b"period 1000001 in a file: ");
-    say_read(files::read_table(&[2, 0, 12, 0, 0, 0, 6, 0, 0, 0, 10, 0, 15, 66, 65]));
+    say_read(reading::read_table(&[2, 0, 12, 0, 0, 0, 6, 0, 0, 0, 10, 0, 15, 66, 65]));
 }
 
 // A file of so many tasks, fed field by field.
 fn fed(count: usize) -> ReadTable {
-    let mut reader = files::start_table();
+    let mut reader = reading::start_table();
     let mut i = 0;
     while i < count {
-        reader = files::feed(reader, &[2, 0, 12, 0, 0, 0, 6, 0, 0, 0, 10, 0, 0, 0, 10]);
+        reader = reading::feed(reader, &[2, 0, 12, 0, 0, 0, 6, 0, 0, 0, 10, 0, 0, 0, 10]);
         i += 1;
     }
-    files::close_table(reader)
+    reading::close_table(reader)
 }
 
 // 64 tasks are read, 65 not.
@@ -115,12 +115,12 @@ fn cores() {
 fn writing() {
     say(b"a table file: ");
     let mut long = [7u8; 20];
-    let written = files::write_table(table(1, 10), &mut long);
+    let written = writing::write_table(table(1, 10), &mut long);
     say_written(written);
     say_bytes(&long);
     say(b"a buffer one byte short: ");
     let mut short = [7u8; 18];
-    let refused = files::write_table(table(1, 10), &mut short);
+    let refused = writing::write_table(table(1, 10), &mut short);
     say_written(refused);
     say_bytes(&short);
 }
@@ -129,7 +129,7 @@ fn writing() {
 fn reading_back(plan: Plan) {
     say(b"a plan file: ");
     let mut file = io::buffer();
-    let written = files::write_plan(plan, &mut file);
+    let written = writing::write_plan(plan, &mut file);
     say_written(written);
     if let Written::Length(length) = written {
         console::print(lines::runner(console::plan_in(&file, length)));
@@ -138,10 +138,10 @@ fn reading_back(plan: Plan) {
 
 // The table in force: how many bytes of task fields, and whose they are or why there are none.
 fn in_force<'a>(own: &'a [u8], shipped: &'a [u8]) {
-    let part = files::table_in_force(own, shipped);
+    let part = force::table_in_force(own, shipped);
     io::print_decimal(STDOUT_FILENO, part.len() as u64);
     say(b" bytes of task fields, ");
-    match files::which_in_force(own, shipped) {
+    match force::which_in_force(own, shipped) {
         InForce::Own => say(b"the machine's own\n"),
         InForce::Shipped => say(b"the shipped ones\n"),
         InForce::Neither(refusal) => console::print(lines::refused(refusal)),

@@ -1,11 +1,11 @@
 // Standard input and standard output of the programs: files that come in parts are read to their end, and texts are printed.
 // A read that fails counts as the end of the input.
-use files::ReadPlan;
-use files::ReadTable;
-use files::Reader;
 use libc::STDIN_FILENO;
 use libc::STDOUT_FILENO;
 use lines::Text;
+use reading::ReadPlan;
+use reading::ReadTable;
+use reading::Reader;
 
 // A reader after one more part, and whether the input may go on.
 struct Fed {
@@ -19,7 +19,7 @@ fn feed_some(reader: Reader) -> Fed {
     let got = libc::read(STDIN_FILENO, &mut part);
     let n = io::count(got, &part);
     Fed {
-        reader: files::feed(reader, &part[..n]),
+        reader: reading::feed(reader, &part[..n]),
         more: n > 0,
     }
 }
@@ -38,20 +38,20 @@ fn feed_all(reader: Reader) -> Reader {
 
 // The table file on standard input.
 pub fn read_table() -> ReadTable {
-    files::close_table(feed_all(files::start_table()))
+    reading::close_table(feed_all(reading::start_table()))
 }
 
 // The plan file on standard input.
 pub fn read_plan() -> ReadPlan {
-    files::close_plan(feed_all(files::start_plan()))
+    reading::close_plan(feed_all(reading::start_plan()))
 }
 
 // The first n bytes of a buffer, or all that it has, read as a plan file.
 pub fn plan_in(bytes: &[u8], n: usize) -> ReadPlan {
     if bytes.len() < n {
-        return files::read_plan(bytes);
+        return reading::read_plan(bytes);
     }
-    files::read_plan(&bytes[..n])
+    reading::read_plan(&bytes[..n])
 }
 
 // Prints a text.

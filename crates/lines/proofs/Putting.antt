@@ -8,7 +8,7 @@ use native.Mathlib.Omega.{arith}
 use lib.ListN.{length, getD, drop, drop-of-length-le}
 use lib.Seq.{drop-cons}
 use borrow.Author.Tests.{lt-ltb, le-ltb}
-use Rattle.files.specs.Fields.{row}
+use Rattle.writing.specs.Fields.{row}
 use Rattle.lines.specs.Lines.{gapText}
 use Rattle.lines.specs.Text.{put, puts, digits, ascii}
 use Rattle.lines.specs.declared.Text.{Text}

@@ -21,9 +21,9 @@ use Rattle.plans.specs.declared.Piece.{Piece}
 use Rattle.plans.specs.declared.Plan.{Plan}
 use Rattle.layout.specs.Layout.{planned}
 use Rattle.layout.specs.declared.Planned.{Planned}
-use Rattle.files.specs.Fields.{row}
-use Rattle.files.specs.declared.ReadPlan.{ReadPlan}
-use Rattle.files.specs.declared.ReadTable.{ReadTable}
+use Rattle.writing.specs.Fields.{row}
+use Rattle.reading.specs.declared.ReadPlan.{ReadPlan}
+use Rattle.reading.specs.declared.ReadTable.{ReadTable}
 use Rattle.dispatch.specs.Jobs.{noRun}
 use Rattle.dispatch.specs.declared.CoreRun.{CoreRun}
 use Rattle.dispatch.specs.declared.Runner.{Runner}

@@ -5,9 +5,9 @@ use Rattle.cases.proofs.fed.Statement.{statement}
 use Rattle.cases.proofs.fed.Tie as tie
 use Rattle.cases.proofs.fed.Reads as reads
 use Rattle.cases.proofs.fed.Lts as lts
-use Rattle.files.proofs.close_table.Reads as close-table-reads
-use Rattle.files.proofs.feed.Reads as feed-reads
-use Rattle.files.proofs.start_table.Reads as start-table-reads
+use Rattle.reading.proofs.close_table.Reads as close-table-reads
+use Rattle.reading.proofs.feed.Reads as feed-reads
+use Rattle.reading.proofs.start_table.Reads as start-table-reads
 
 abbrev Inv-loop : tie.InvT-loop
 Inv-loop count reader₀ i₀ t4 reader i = (i ≤ count)

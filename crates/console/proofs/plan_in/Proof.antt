@@ -5,7 +5,7 @@ use Rattle.console.proofs.plan_in.Statement.{statement}
 use Rattle.console.proofs.plan_in.Tie as tie
 use Rattle.console.proofs.plan_in.Reads as reads
 use Rattle.console.proofs.plan_in.Lts as lts
-use Rattle.files.proofs.read_plan.Reads as read-plan-reads
+use Rattle.reading.proofs.read_plan.Reads as read-plan-reads
 
 -- src/main.rt:116:9
 read-plan-requires : tie.Need-read-plan-requires

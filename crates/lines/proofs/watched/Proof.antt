@@ -4,7 +4,7 @@ use Rattle.lines.specs.Lines.{responseText, watchedText}
 use Rattle.lines.specs.Text.{puts}
 use lib.ListN.{getD}
 use Rattle.lines.proofs.Putting.{puts-parts, row-turn}
-use Rattle.files.specs.Fields.{row}
+use Rattle.writing.specs.Fields.{row}
 use Prim.Native.Nat.{_≤_, _-_}
 use native.Mathlib.Omega.{arith}
 use mathlib.Core.Path.{_≡_, refl, sym, ap, _∙_}

@@ -3,7 +3,7 @@ use Rattle.plans.specs.Pieces.{pieceOf}
 use Rattle.lines.specs.Lines.{pieceText, listingText}
 use Rattle.lines.specs.Text.{puts}
 use Rattle.lines.proofs.Putting.{puts-parts, row-turn}
-use Rattle.files.specs.Fields.{row}
+use Rattle.writing.specs.Fields.{row}
 use Prim.Native.Nat.{_≤_, _-_}
 use native.Mathlib.Omega.{arith}
 use mathlib.Core.Path.{_≡_, refl, sym, ap, _∙_}

@@ -5,7 +5,7 @@ use Rattle.runs.proofs.Turns.{after-turn}
 use Rattle.runs.specs.Allowed.{fullTick, stateAfter}
 use Rattle.dispatch.specs.declared.Ticked.{Ticked}
 use Rattle.lines.proofs.Putting.{puts-parts, row-turn}
-use Rattle.files.specs.Fields.{row}
+use Rattle.writing.specs.Fields.{row}
 use Prim.Native.Nat.{_≤_, _-_}
 use native.Mathlib.Omega.{arith}
 use mathlib.Core.Path.{_≡_, refl, sym, ap, _∙_}

@@ -1,4 +1,0 @@
-pub mod Fields
-pub mod Reading
-pub mod Writing
-pub mod InForce

@@ -1,0 +1,16 @@
+-- Each public contract settles its result: of the returned part the pointer and the bytes.
+use contract.Lifetimes.{Lfts}
+use denote.Ref.{RefT, ptr, now}
+use mathlib.Core.List.{List}
+use mathlib.Core.Path.{_≡_, sym, _∙_}
+use Prim.Native.Nat.{ℕ}
+use Rattle.tasks.proofs.Settling.{Settles, settled}
+use Rattle.force.specs.InForce.{IsPart}
+use Rattle.force.proofs.which_in_force.Reads as which-in-force
+
+pub which-in-force-settled : (κ : Lfts 1) → Settles (which-in-force.Post κ)
+which-in-force-settled κ x e r s p q = settled p q
+
+-- two parts that a contract allows are one
+pub part-fixed : (r q s : RefT (List ℕ)) (a e : ℕ) → IsPart r s a e → IsPart q s a e → (ptr r .0 ≡ ptr q .0) × ((ptr r .1 ≡ ptr q .1) × (now r ≡ now q))
+part-fixed r q s a e h k = (h .block ∙ sym (k .block), (h .offset ∙ sym (k .offset), h .bytes ∙ sym (k .bytes)))

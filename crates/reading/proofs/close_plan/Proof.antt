@@ -1,0 +1,36 @@
+use Rattle.reading.specs.Reading.{planClosed}
+use mathlib.Core.Path.{sym, _∙_}
+use borrow.Author.Needs.{needs}
+use Rattle.reading.proofs.close_plan.Statement.{statement}
+use Rattle.reading.proofs.close_plan.Tie as tie
+
+plan-ended-requires : tie.Need-plan-ended-requires
+plan-ended-requires c κs = search needs
+
+enum-told : tie.Need-enum-told
+enum-told c = search needs
+
+enum-known-refusal : tie.Need-enum-known-refusal
+enum-known-refusal c = search needs
+
+empty-plan-requires : tie.Need-empty-plan-requires
+empty-plan-requires c κs = search needs
+
+returns : tie.Need-returns
+unfolding planClosed
+returns c = simp (sym (c .before .before .plan-ended .ensures) ∙ c .enum-told .given .1)
+
+returns-2 : tie.Need-returns-2
+unfolding planClosed
+returns-2 c = simp (sym (c .before .before .before .before .plan-ended .ensures) ∙ c .before .before .refusal .given .1, c .empty-plan .ensures)
+
+pub close-plan-spec : {M : Type 1} → statement M
+close-plan-spec =
+    tie.close
+    (tie.spec
+    plan-ended-requires
+    enum-told
+    enum-known-refusal
+    empty-plan-requires
+    returns
+    returns-2)

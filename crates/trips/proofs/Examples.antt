@@ -1,0 +1,41 @@
+-- Document 01's file for two cores and one task (6,10,10), and files at the edges of its ranges.
+use mathlib.Core.Path.{_≡_, refl}
+use mathlib.Core.List.{List, [], _∷_, _++_}
+use Prim.Native.Nat.{ℕ}
+use lib.ListN.{replicate}
+use Rattle.tasks.specs.Tables.{noTask}
+use Rattle.tasks.specs.declared.Answer.the-variants.{Accepted, Refused}
+use Rattle.tasks.specs.declared.Place.{Place}
+use Rattle.tasks.specs.declared.Refusal.the-variants.{CutShort, WrongTag, WrongLength, CoresAt, ValuesAt, TasksAt}
+use Rattle.tasks.specs.declared.Table.{Table}
+use Rattle.writing.specs.Fields.{tableBytes, tasksBytes, coreField, taskField, row}
+use Rattle.reading.specs.Reading.{tableRead, tableClosed, read, step, verdict, hold, tagFits, values, nextField, added, further, endedAfter}
+
+abbrev example : List ℕ
+example = 1 ∷ 0 ∷ 1 ∷ 2 ∷ 2 ∷ 0 ∷ 12 ∷ 0 ∷ 0 ∷ 0 ∷ 6 ∷ 0 ∷ 0 ∷ 0 ∷ 10 ∷ 0 ∷ 0 ∷ 0 ∷ 10 ∷ []
+
+abbrev table : Table
+table = record { cores = 2; count = 1; tasks = record { cost = 6; deadline = 10; period = 10 } ∷ replicate 63 noTask }
+
+-- n tasks (1,1,p)
+abbrev tasks : ℕ → ℕ → List ℕ
+tasks n p = row n (λ i. taskField (record { cost = 1; deadline = 1; period = p }))
+
+abbrev at : ℕ → Place
+at n = record { 0 = n }
+
+pub record SmallFiles : Type 0 where
+  pub written : tableBytes table ≡ example
+  pub read-back : tableRead example ≡ record { answer = Accepted; table = table }
+  pub no-task : tableRead [] .answer ≡ Refused (TasksAt (at 0))
+  pub short-tail : tableRead (example ++ (9 ∷ 9 ∷ [])) .answer ≡ Refused (CutShort (at 19))
+  pub second-count : tableRead (example ++ (1 ∷ 0 ∷ 1 ∷ [])) .answer ≡ Refused (WrongTag (at 19))
+  pub wrong-length : tableRead (2 ∷ 0 ∷ 13 ∷ []) .answer ≡ Refused (WrongLength (at 0))
+  pub many-cores : tableRead (1 ∷ 0 ∷ 1 ∷ 17 ∷ 7 ∷ []) .answer ≡ Refused (CoresAt (at 0))
+  pub most-tasks : tableRead (tasks 64 1000000) .answer ≡ Accepted
+  pub many-tasks : tableRead (tasks 65 1000000) .answer ≡ Refused (TasksAt (at 960))
+  pub long-period : tableRead (tasks 1 1000001) .answer ≡ Refused (ValuesAt (at 0))
+
+pub small-files : SmallFiles
+unfolding tableBytes tasksBytes coreField taskField row tableRead tableClosed read step verdict hold tagFits values nextField added further endedAfter
+small-files = record { written = refl; read-back = refl; no-task = refl; short-tail = refl; second-count = refl; wrong-length = refl; many-cores = refl; most-tasks = refl; many-tasks = refl; long-period = refl }

@@ -1,0 +1,221 @@
+-- What an accepted file is: it is written again byte for byte, its record is good, and its task fields are the part that the table in force gives.
+use mathlib.Core.Path.{_≡_, refl, sym, ap, _∙_}
+use mathlib.Core.Bool.{Bool, true, false, not, _&&_, cond}
+use mathlib.Core.List.{List, [], _∷_, _++_, append-assoc, append-nil}
+use Prim.Native.Nat.{ℕ, zero, suc, _+_, _≤_, _<_}
+use native.Mathlib.Omega.{arith}
+use lib.Arith.{le-zero}
+use lib.Dec.{ltb, eqb}
+use lib.ListN.{length, getD, take}
+use borrow.Author.Tests.{ltb-false, eqb-false, le-leb}
+use Rattle.tasks.proofs.Bools.{both-make}
+use Rattle.tasks.proofs.Tables.{all-good}
+use Rattle.tasks.specs.Tables.{noTask, checkedTable, checkedTasks, andThen}
+use Rattle.tasks.specs.declared.Answer.{Answer}
+use Rattle.tasks.specs.declared.Answer.the-variants.{Accepted, Refused}
+use Rattle.tasks.specs.declared.Refusal.{Refusal}
+use Rattle.tasks.specs.declared.Refusal.the-variants.{NoPlanShape}
+use Rattle.tasks.specs.declared.Table.{Table}
+use Rattle.plans.specs.Pieces.{noPiece, taskOf, pieceOf}
+use Rattle.plans.specs.Shape.{checkedPlan, shape}
+use Rattle.plans.specs.declared.Plan.{Plan}
+use Rattle.writing.specs.Fields.{coreField, taskField, row, tasksBytes, tableBytes, planBytes}
+use Rattle.reading.specs.Reading.{defaultCores, fieldAt, read, begun, emptyPlan, endedAfter, planEnded, tableAnswered, planAnswered, tableClosed, tableRead, planClosed, planRead}
+use Rattle.reading.specs.declared.Field.{Field}
+use Rattle.trips.proofs.Accepted.{told, Content, Held, read-held, cleared, zero-byte}
+use Rattle.trips.proofs.Good.{accepted-not-refused}
+
+-- a lent slice: each byte is below 256, and the length fits a machine word
+pub record Slice (s : List ℕ) : Type 0 where
+  pub small : (i : ℕ) → getD s i 0 < 256
+  pub most : length s ≤ 18446744073709551615
+
+begun-held : (o : Bool) → Held o [] (fieldAt o 0 0 false) (emptyPlan defaultCores)
+unfolding told row
+begun-held o = record {
+  kind = refl;
+  answer = refl;
+  whole = refl;
+  ends = omega arith;
+  size = refl;
+  small = zero-byte;
+  plain = λ q. refl;
+  named = false;
+  good = λ m. record {
+    text = refl;
+    cores = refl;
+    default = λ q. refl;
+    count = omega arith;
+    values = λ i l. absurd (omega arith);
+    tasks = refl;
+    placed = omega arith;
+    pieces = refl;
+    clean = record { tasks = λ i l. cleared 64 noTask i; pieces = λ j l. cleared 128 noPiece j };
+    alone = λ q. refl;
+    order = λ q. refl;
+  };
+}
+
+-- the end of the fields
+pub record Ended (f : Field) (n : ℕ) : Type 0 where
+  pub answer : f .answer ≡ Accepted
+  pub count : f .count ≡ 0
+  pub some : 1 ≤ n
+
+positive : (n : ℕ) → (n ≡ 0 → ⊥) → 1 ≤ n
+positive zero h = absurd (h refl)
+positive (suc n) h = omega arith
+
+ended-says : (f : Field) (n : ℕ) → endedAfter f n ≡ Accepted → Ended f n
+unfolding endedAfter
+ended-says f n h = answered _ refl
+  where
+    third : (b : Bool) (x : Refusal) → eqb n 0 ≡ b → cond b (Refused x) Accepted ≡ Accepted → 1 ≤ n
+    third true x e q = accepted-not-refused q refl
+    third false x e q = positive n (eqb-false n 0 e)
+
+    second : (b : Bool) (x y : Refusal) → ltb 0 (f .count) ≡ b → f .answer ≡ Accepted → cond b (Refused x) (cond (eqb n 0) (Refused y) Accepted) ≡ Accepted → Ended f n
+    second true x y e a q = accepted-not-refused q refl
+    second false x y e a q = record { answer = a; count = le-zero (ltb-false 0 (f .count) e); some = third _ y refl q }
+
+    answered : (a : Answer) → f .answer ≡ a → Ended f n
+    answered (Refused x) e = accepted-not-refused {x = x} h (rw e)
+    answered Accepted e = second _ _ _ refl e (rw e at h)
+
+-- ---- told again
+
+row-front : (n : ℕ) (f : ℕ → List ℕ) → row (suc n) f ≡ f 0 ++ row n (λ i. f (suc i))
+unfolding row
+row-front zero f = sym (append-nil (f 0))
+row-front (suc n) f = ap (λ (x : List ℕ). x ++ f (suc n)) (row-front n f) ∙ append-assoc (f 0) (row n (λ i. f (suc i))) (f (suc n))
+
+first-byte : (n : ℕ) (f : ℕ → List ℕ) (g : ℕ → List ℕ) (b : ℕ) (ys : List ℕ) → 1 ≤ n → ((i : ℕ) → f i ≡ b ∷ g i) → getD (row n f ++ ys) 0 0 ≡ b
+first-byte zero f g b ys h e = absurd (omega arith)
+first-byte (suc n) f g b ys h e = rw (row-front n f, e 0)
+
+told-named : (p : Plan) → getD (told true p) 0 0 ≡ 1
+unfolding told coreField
+told-named p = refl
+
+told-other : (p : Plan) → 1 ≤ p .count → getD (told false p) 0 0 ≡ 2
+unfolding told taskField
+told-other p h = first-byte (p .count) (λ i. taskField (taskOf p i)) _ 2 _ h (λ i. refl)
+
+told-split : (p : Plan) → told true p ≡ coreField (p .cores) ++ told false p
+unfolding told
+told-split p = refl
+
+-- a file that names its core count is told again byte for byte, any other with the count of 4 before it
+told-again : (s : List ℕ) (named : Bool) (p : Plan) → 1 ≤ p .count → s ≡ told named p → (named ≡ false → p .cores ≡ 4) → told true p ≡ cond (eqb (getD s 0 0) 1) s (coreField defaultCores ++ s)
+told-again s true p h e d = rw (e, told-named p)
+told-again s false p h e d = rw (e, told-other p h, told-split p, d refl)
+
+plan-told : (p : Plan) → planBytes p ≡ told true p
+unfolding planBytes tasksBytes told
+plan-told p = simp append-assoc
+
+abbrev tableOf : Plan → Table
+tableOf p = record { cores = p .cores; count = p .count; tasks = p .tasks }
+
+table-told : (p : Plan) → p .placed ≡ 0 → tableBytes (tableOf p) ≡ told true p
+unfolding tableBytes tasksBytes told row
+table-told p e = rw e (rw append-nil)
+
+-- ---- a whole file
+
+-- a file that was read without a refusal so far
+reading : (o : Bool) (s : List ℕ) → Slice s → read (begun o) s .field .answer ≡ Accepted → Held o s (read (begun o) s .field) (read (begun o) s .plan)
+reading o s lent a = read-held o s [] (fieldAt o 0 0 false) (emptyPlan defaultCores) (begun-held o) (omega arith) (lent .small) (omega (arith, lent .most)) a
+
+-- the place that is told of a field is where its first byte stands
+pub place-is : (o : Bool) (s : List ℕ) → Slice s → read (begun o) s .field .answer ≡ Accepted → read (begun o) s .field .place + read (begun o) s .field .count ≡ length s
+place-is o s lent a = reading o s lent a .whole
+
+module _ (o : Bool) (s : List ℕ) (lent : Slice s) (e : Ended (read (begun o) s .field) (read (begun o) s .plan .count)) where
+  held : Held o s (read (begun o) s .field) (read (begun o) s .plan)
+  held = reading o s lent (e .answer)
+
+  module _ (m : read (begun o) s .field .misshapen ≡ false) where
+    content : Content o (held .named) s (read (begun o) s .field) (read (begun o) s .plan)
+    content = held .good m
+
+    text : s ≡ told (held .named) (read (begun o) s .plan)
+    text = content .text ∙ ap (λ (k : ℕ). told (held .named) (read (begun o) s .plan) ++ take k (read (begun o) s .field .bytes)) (e .count) ∙ append-nil _
+
+    again : told true (read (begun o) s .plan) ≡ cond (eqb (getD s 0 0) 1) s (coreField defaultCores ++ s)
+    again = told-again s (held .named) (read (begun o) s .plan) (e .some) text (content .default)
+
+    good : checkedTasks (read (begun o) s .plan .cores) (read (begun o) s .plan .count) (taskOf (read (begun o) s .plan)) ≡ Accepted
+    good = all-good _ _ _ (content .cores) (both-make (le-leb 1 _ (e .some)) (le-leb _ 64 (content .count))) (content .values)
+
+answer-is : (a : Answer) (p : Plan) → tableAnswered a p .answer ≡ a
+answer-is Accepted p = refl
+answer-is (Refused x) p = refl
+
+plan-answer-is : (a : Answer) (p : Plan) → planAnswered a p .answer ≡ a
+plan-answer-is Accepted p = refl
+plan-answer-is (Refused x) p = refl
+
+plan-ended-says : (f : Field) (p : Plan) → planEnded f p ≡ Accepted → Ended f (p .count) × ((f .misshapen ≡ false) × (checkedPlan p ≡ Accepted))
+unfolding planEnded
+plan-ended-says f p h = fields _ refl
+  where
+    shaped : (b : Bool) → f .misshapen ≡ b → cond b (Refused NoPlanShape) (checkedPlan p) ≡ Accepted → (f .misshapen ≡ false) × (checkedPlan p ≡ Accepted)
+    shaped true e q = accepted-not-refused q refl
+    shaped false e q = (e, q)
+
+    fields : (a : Answer) → endedAfter f (p .count) ≡ a → Ended f (p .count) × ((f .misshapen ≡ false) × (checkedPlan p ≡ Accepted))
+    fields (Refused x) e = accepted-not-refused {x = x} h (rw e)
+    fields Accepted e = (ended-says f (p .count) e, shaped _ refl (rw e at h))
+
+-- every accepted table file that names its core count is written again byte for byte, any other with the count of 4 before it
+module _ (s : List ℕ) (lent : Slice s) (accepted : tableRead s .answer ≡ Accepted) where
+  table-ended : endedAfter (read (begun false) s .field) (read (begun false) s .plan .count) ≡ Accepted
+  unfolding tableRead tableClosed
+  table-ended = sym (answer-is _ (read (begun false) s .plan)) ∙ accepted
+
+  table-plain : read (begun false) s .field .misshapen ≡ false
+  table-plain = held false s lent (ended-says _ _ table-ended) .plain refl
+
+  table-is : tableRead s .table ≡ tableOf (read (begun false) s .plan)
+  unfolding tableRead tableClosed
+  table-is = rw table-ended
+
+  pub table-written-again : tableBytes (tableRead s .table) ≡ cond (eqb (getD s 0 0) 1) s (coreField defaultCores ++ s)
+  table-written-again = ap tableBytes table-is ∙ table-told _ (content false s lent (ended-says _ _ table-ended) table-plain .alone refl) ∙ again false s lent (ended-says _ _ table-ended) table-plain
+
+  -- and its record is a good table
+  pub table-is-good : checkedTable (tableRead s .table) ≡ Accepted
+  table-is-good = rw table-is (good false s lent (ended-says _ _ table-ended) table-plain)
+
+-- every accepted plan file that names its core count is written again byte for byte, any other with the count of 4 before it
+module _ (s : List ℕ) (lent : Slice s) (accepted : planRead s .answer ≡ Accepted) where
+  plan-ended : planEnded (read (begun true) s .field) (read (begun true) s .plan) ≡ Accepted
+  unfolding planRead planClosed
+  plan-ended = sym (plan-answer-is _ (read (begun true) s .plan)) ∙ accepted
+
+  plan-is : planRead s .plan ≡ read (begun true) s .plan
+  unfolding planRead planClosed
+  plan-is = rw plan-ended
+
+  pub plan-written-again : planBytes (planRead s .plan) ≡ cond (eqb (getD s 0 0) 1) s (coreField defaultCores ++ s)
+  plan-written-again =
+      let e = plan-ended-says _ _ plan-ended in
+      ap planBytes plan-is ∙ plan-told _ ∙ again true s lent (e .0) (e .1 .0)
+
+  -- and its record is a good plan
+  pub plan-is-good : checkedPlan (planRead s .plan) ≡ Accepted
+  plan-is-good = rw plan-is (plan-ended-says _ _ plan-ended .1 .1)
+
+-- after good fields only the shape is left to refuse
+pub shape-left : (s : List ℕ) → Slice s → endedAfter (read (begun true) s .field) (read (begun true) s .plan .count) ≡ Accepted
+    → planEnded (read (begun true) s .field) (read (begun true) s .plan)
+    ≡ cond (not (read (begun true) s .field .misshapen) && shape (read (begun true) s .plan .cores) (read (begun true) s .plan .count) (taskOf (read (begun true) s .plan)) (pieceOf (read (begun true) s .plan)) (read (begun true) s .plan .placed)) Accepted (Refused NoPlanShape)
+unfolding planEnded checkedPlan
+shape-left s lent h = go _ refl
+  where
+    go : (b : Bool) → read (begun true) s .field .misshapen ≡ b
+        → andThen (endedAfter (read (begun true) s .field) (read (begun true) s .plan .count)) (cond (read (begun true) s .field .misshapen) (Refused NoPlanShape) (checkedPlan (read (begun true) s .plan)))
+        ≡ cond (not (read (begun true) s .field .misshapen) && shape (read (begun true) s .plan .cores) (read (begun true) s .plan .count) (taskOf (read (begun true) s .plan)) (pieceOf (read (begun true) s .plan)) (read (begun true) s .plan .placed)) Accepted (Refused NoPlanShape)
+    go true e = rw (h, e)
+    go false e = rw (h, e, good true s lent (ended-says _ _ h) e)

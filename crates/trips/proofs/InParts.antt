@@ -1,0 +1,21 @@
+-- Reading in parts gives what reading the whole gives.
+use mathlib.Core.Path.{_≡_, refl, ap}
+use mathlib.Core.Bool.{true, false}
+use mathlib.Core.List.{List, [], _∷_, _++_}
+use Prim.Native.Nat.{ℕ}
+use Rattle.reading.specs.Reading.{begun, step, read, tableClosed, tableRead, planClosed, planRead}
+use Rattle.reading.specs.declared.Reader.{Reader}
+
+pub read-parts : (r : Reader) (a b : List ℕ) → read (read r a) b ≡ read r (a ++ b)
+unfolding read
+read-parts r [] b = refl
+read-parts r (x ∷ a) b = read-parts (step r x) a b
+
+-- a file that comes in two parts is read as the whole is
+pub table-in-parts : (a b : List ℕ) → tableClosed (read (read (begun false) a) b) ≡ tableRead (a ++ b)
+unfolding tableRead
+table-in-parts a b = ap tableClosed (read-parts (begun false) a b)
+
+pub plan-in-parts : (a b : List ℕ) → planClosed (read (read (begun true) a) b) ≡ planRead (a ++ b)
+unfolding planRead
+plan-in-parts a b = ap planClosed (read-parts (begun true) a b)

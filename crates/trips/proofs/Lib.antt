@@ -1,0 +1,12 @@
+pub mod Good
+pub mod Numbers
+pub mod Same
+pub mod InParts
+pub mod ReadBack
+pub mod RoundTrip
+pub mod Taken
+pub mod Accepted
+pub mod Files
+pub mod Trips
+pub mod Parts
+mod Examples

@@ -1,0 +1,83 @@
+-- The table in force: its part is exactly the task fields of the slice in force, so it is empty only where both slices are bad.
+use mathlib.Core.Path.{_≡_, refl, sym, ap, _∙_}
+use mathlib.Core.Bool.{Bool, true, false}
+use mathlib.Core.List.{List, [], _++_}
+use Prim.Native.Nat.{ℕ, _+_, _-_, _≤_}
+use native.Mathlib.Omega.{arith}
+use lib.Dec.{leb, eqb}
+use lib.ListN.{length, getD, drop, length-drop}
+use lib.Seq.{take-all}
+use borrow.Author.Tests.{le-leb}
+use denote.Ref.{RefT, now}
+use Rattle.tasks.proofs.Bools.{not-second}
+use Rattle.tasks.proofs.Tables.{accepted-good}
+use Rattle.tasks.specs.Tables.{taskOf}
+use Rattle.tasks.specs.declared.Answer.{Answer}
+use Rattle.tasks.specs.declared.Answer.the-variants.{Accepted, Refused}
+use Rattle.tasks.specs.declared.Refusal.{Refusal}
+use Rattle.tasks.specs.declared.Table.{Table}
+use Rattle.writing.specs.Fields.{coreField, taskField, row, tasksBytes, tableBytes}
+use Rattle.force.specs.InForce.{firstTask, TaskFields, IsInForce, choice, inForce}
+use Rattle.reading.specs.Reading.{defaultCores, tableRead}
+use Rattle.trips.proofs.Files.{Slice, table-written-again, table-is-good}
+use Rattle.writing.proofs.Writing.{task-field-length, row-length}
+
+-- the task fields of a table
+abbrev pub fieldsOf : Table → List ℕ
+fieldsOf t = row (t .count) (λ i. taskField (taskOf t i))
+
+table-splits : (t : Table) → tableBytes t ≡ coreField (t .cores) ++ fieldsOf t
+unfolding tableBytes tasksBytes
+table-splits t = refl
+
+-- a file with a core count before its tasks
+behind-cores : (m : ℕ) (xs s : List ℕ) → s ≡ coreField m ++ xs → (4 ≤ length s) × ((getD s 0 0 ≡ 1) × (drop 4 s ≡ xs))
+unfolding coreField
+behind-cores m xs s h = rw h (omega arith, (refl, refl))
+
+module _ (s : List ℕ) (lent : Slice s) (accepted : tableRead s .answer ≡ Accepted) where
+  -- the part of a good table file from its first task on is its task fields
+  pub tasks-part : drop (firstTask s) s ≡ fieldsOf (tableRead s .table)
+  tasks-part = go _ refl
+    where
+      go : (b : Bool) → eqb (getD s 0 0) 1 ≡ b → drop (firstTask s) s ≡ fieldsOf (tableRead s .table)
+      go true e =
+          let same : s ≡ coreField (tableRead s .table .cores) ++ fieldsOf (tableRead s .table) = sym (sym (table-splits (tableRead s .table)) ∙ table-written-again s lent accepted ∙ rw e) in
+          let b : (4 ≤ length s) × ((getD s 0 0 ≡ 1) × (drop 4 s ≡ fieldsOf (tableRead s .table))) = behind-cores _ _ s same in
+          rw (le-leb 4 (length s) (b .0), e) (b .1 .1)
+      go false e =
+          let same : coreField defaultCores ++ s ≡ coreField (tableRead s .table .cores) ++ fieldsOf (tableRead s .table) = sym (sym (table-splits (tableRead s .table)) ∙ table-written-again s lent accepted ∙ rw e) in
+          rw (not-second (leb 4 (length s)) e) (sym (behind-cores defaultCores s _ refl .1 .1) ∙ ap (drop 4) same ∙ behind-cores _ _ _ refl .1 .1)
+
+  -- and it is not empty
+  pub tasks-some : 15 ≤ length (fieldsOf (tableRead s .table))
+  tasks-some =
+      let n : (1 ≤ tableRead s .table .count) × (tableRead s .table .count ≤ 64) = accepted-good _ _ _ (table-is-good s lent accepted) .tasks in
+      omega (arith, row-length 15 (tableRead s .table .count) (λ i. taskField (taskOf (tableRead s .table) i)) (λ i. task-field-length (taskOf (tableRead s .table) i)))
+
+-- the part that is said to hold a good slice's task fields holds them, and is not empty
+pub part-holds : (r s : RefT (List ℕ)) → Slice (now s) → tableRead (now s) .answer ≡ Accepted → TaskFields r s → (now r ≡ fieldsOf (tableRead (now s) .table)) × (15 ≤ length (now r))
+part-holds r s lent a h =
+    let whole : now r ≡ drop (firstTask (now s)) (now s) = h .bytes ∙ take-all (length (now s) - firstTask (now s)) (drop (firstTask (now s)) (now s)) (omega (arith, length-drop (firstTask (now s)) (now s))) in
+    let held : now r ≡ fieldsOf (tableRead (now s) .table) = whole ∙ tasks-part (now s) lent a in
+    (held, omega (arith, ap length held, tasks-some (now s) lent a))
+
+-- the table in force is empty exactly where both slices are bad
+pub record Both (own shipped : List ℕ) : Type 0 where
+  pub first : Refusal
+  pub second : Refusal
+  pub own-bad : tableRead own .answer ≡ Refused first
+  pub shipped-bad : tableRead shipped .answer ≡ Refused second
+
+pub empty-if : (r own shipped : RefT (List ℕ)) → Both (now own) (now shipped) → IsInForce (inForce (now own) (now shipped)) r own shipped → now r ≡ []
+unfolding inForce
+empty-if r own shipped b h = (rw (b .own-bad, b .shipped-bad) at h) .bytes
+
+pub empty-only-if : (r own shipped : RefT (List ℕ)) → Slice (now own) → Slice (now shipped) → IsInForce (inForce (now own) (now shipped)) r own shipped → now r ≡ [] → Both (now own) (now shipped)
+unfolding inForce
+empty-only-if r own shipped x y h e = go _ _ refl refl h
+  where
+    go : (a b : Answer) → tableRead (now own) .answer ≡ a → tableRead (now shipped) .answer ≡ b → IsInForce (choice (tableRead (now own) .answer) (tableRead (now shipped) .answer)) r own shipped → Both (now own) (now shipped)
+    go Accepted b q k j = absurd (omega (arith, ap length e, part-holds r own x q (rw q at j) .1))
+    go (Refused u) Accepted q k j = absurd (omega (arith, ap length e, part-holds r shipped y k (rw (q, k) at j) .1))
+    go (Refused u) (Refused v) q k j = record { first = u; second = v; own-bad = q; shipped-bad = k }

@@ -1,0 +1,148 @@
+-- The bytes of a field that was found good are those that the writer writes for what it holds.
+use mathlib.Core.Path.{_≡_, refl, sym, ap, _∙_}
+use mathlib.Core.Bool.{Bool, true, false, not, _&&_, cond}
+use mathlib.Core.List.{List, [], _∷_, _++_}
+use mathlib.Core.Logic.{_⊎_, inl, inr}
+use Prim.Native.Nat.{ℕ, _+_, _≤_, _<_}
+use native.Mathlib.Decide.{ℕ-discrete}
+use native.Mathlib.Omega.{arith}
+use lib.Dec.{leb, ltb, eqb}
+use lib.ListN.{length, getD, take}
+use lib.Seq.{length-take-le, getD-take}
+use borrow.Author.Tests.{leb-true, ltb-true, ltb-false, eqb-true, eq-eqb, ne-eqb, not-false}
+use Rattle.tasks.proofs.Bools.{both, clash}
+use Rattle.tasks.proofs.Padded.{tabulate-is}
+use Rattle.tasks.specs.Below.{tabulate}
+use Rattle.tasks.specs.Tables.{coresFit, valuesFit}
+use Rattle.tasks.specs.declared.Refusal.{Refusal}
+use Rattle.tasks.specs.declared.Refusal.the-variants.{CoresAt, ValuesAt}
+use Rattle.reading.specs.Reading.{number2, number4, tag, placeOf, tagFits, lengthFor, taskIn, pieceIn, kindOf, values, verdict, pieceTaken}
+use Rattle.writing.specs.Fields.{bytes4, kindByte, coreField, taskField, pieceField}
+use Rattle.reading.specs.declared.Field.{Field}
+use Rattle.reading.specs.declared.Verdict.{Verdict}
+use Rattle.reading.specs.declared.Verdict.the-variants.{Waits, Bad, Good}
+use Rattle.trips.proofs.Numbers.{bytes-back}
+
+-- ---- what a verdict says
+
+no-clash : {X : Type 0} {v : Verdict} {x : Refusal} → v ≡ Good → v ≡ Bad x → X
+no-clash {v} {x} h k = let z : _≡_ {A = ℕ} 0 1 = cc in absurd (omega arith)
+
+not-bad : (b : Bool) (x : Refusal) (v : Verdict) → cond b (Bad x) v ≡ Good → (b ≡ false) × (v ≡ Good)
+not-bad true x v h = no-clash h refl
+not-bad false x v h = (refl, h)
+
+not-waiting : (b : Bool) (v : Verdict) → cond b Waits v ≡ Good → (b ≡ false) × (v ≡ Good)
+not-waiting true v h = let z : _≡_ {A = ℕ} 0 1 = cc in absurd (omega arith)
+not-waiting false v h = (refl, h)
+
+good-test : (b : Bool) (x : Refusal) → cond b Good (Bad x) ≡ Good → b ≡ true
+good-test true x h = refl
+good-test false x h = no-clash h refl
+
+-- what is known of a good field
+pub record Found (f : Field) : Type 0 where
+  pub fits : tagFits f ≡ true
+  pub size : number2 (f .bytes) 1 ≡ lengthFor (tag f)
+  pub whole : 3 + lengthFor (tag f) ≤ f .count
+  pub values : values f ≡ Good
+
+pub good-found : (f : Field) (n : ℕ) → verdict f n ≡ Good → Found f
+unfolding verdict
+good-found f n h =
+    let a = not-waiting (ltb (f .count) 3) _ h in
+    let b = not-bad (not (tagFits f)) _ _ (a .1) in
+    let c = not-bad (eqb (tag f) 2 && leb 64 n) _ _ (b .1) in
+    let d = not-bad (not (eqb (number2 (f .bytes) 1) (lengthFor (tag f)))) _ _ (c .1) in
+    let e = not-waiting (ltb (f .count) (3 + lengthFor (tag f))) _ (d .1) in
+    record { fits = not-false _ (b .0); size = eqb-true _ _ (not-false _ (d .0)); whole = ltb-false _ _ (e .0); values = e .1 }
+
+-- a field that waits is not whole
+waits-test : (a : Bool) (x : Refusal) (v : Verdict) → cond a (Bad x) v ≡ Waits → v ≡ Waits
+waits-test true x v h = let z : _≡_ {A = ℕ} 0 1 = cc in absurd (omega arith)
+waits-test false x v h = h
+
+values-waits : (f : Field) → values f ≡ Waits → ⊥
+unfolding values
+values-waits f h = go (eqb (tag f) 1) (eqb (tag f) 2) (coresFit (getD (f .bytes) 3 0)) (valuesFit (taskIn f)) (CoresAt (placeOf f)) (ValuesAt (placeOf f)) h
+  where
+    go : (a b c d : Bool) (x y : Refusal) → cond a (cond c Good (Bad x)) (cond b (cond d Good (Bad y)) Good) ≡ Waits → ⊥
+    go true b true d x y q = let z : _≡_ {A = ℕ} 0 1 = cc in omega arith
+    go true b false d x y q = let z : _≡_ {A = ℕ} 0 1 = cc in omega arith
+    go false true c true x y q = let z : _≡_ {A = ℕ} 0 1 = cc in omega arith
+    go false true c false x y q = let z : _≡_ {A = ℕ} 0 1 = cc in omega arith
+    go false false c d x y q = let z : _≡_ {A = ℕ} 0 1 = cc in omega arith
+
+pub waits-short : (f : Field) (n : ℕ) → verdict f n ≡ Waits → f .count < 3 + lengthFor (tag f)
+unfolding verdict
+waits-short f n h = first _ refl
+  where
+    last : (b : Bool) → ltb (f .count) (3 + lengthFor (tag f)) ≡ b → cond b Waits (values f) ≡ Waits → f .count < 3 + lengthFor (tag f)
+    last true q k = ltb-true _ _ q
+    last false q k = absurd (values-waits f k)
+
+    first : (b : Bool) → ltb (f .count) 3 ≡ b → f .count < 3 + lengthFor (tag f)
+    first true q = omega (arith, ltb-true (f .count) 3 q)
+    first false q = last _ refl (waits-test (not (eqb (number2 (f .bytes) 1) (lengthFor (tag f)))) _ _ (waits-test (eqb (tag f) 2 && leb 64 n) _ _ (waits-test (not (tagFits f)) _ _ (rw q at h))))
+
+-- a core count at the start, a task after no piece, or a piece in a plan file
+pub tag-cases : (f : Field) → tagFits f ≡ true → ((tag f ≡ 1) × (f .place ≡ 0)) ⊎ (((tag f ≡ 2) × (f .place ≤ f .end)) ⊎ ((tag f ≡ 3) × (f .pieces ≡ true)))
+unfolding tagFits
+tag-cases f h = go (ℕ-discrete (tag f) 1) (ℕ-discrete (tag f) 2) (ℕ-discrete (tag f) 3)
+  where
+    go : Dec (tag f ≡ 1) → Dec (tag f ≡ 2) → Dec (tag f ≡ 3) → ((tag f ≡ 1) × (f .place ≡ 0)) ⊎ (((tag f ≡ 2) × (f .place ≤ f .end)) ⊎ ((tag f ≡ 3) × (f .pieces ≡ true)))
+    go (yes a) b c = inl (a, eqb-true _ _ (rw (eq-eqb _ _ a) at h))
+    go (no a) (yes b) c = inr (inl (b, leb-true _ _ (rw (ne-eqb _ _ a, eq-eqb _ _ b) at h)))
+    go (no a) (no b) (yes c) = inr (inr (c, rw (ne-eqb _ _ a, ne-eqb _ _ b, eq-eqb _ _ c) at h))
+    go (no a) (no b) (no c) = clash (rw (ne-eqb _ _ a, ne-eqb _ _ b, ne-eqb _ _ c) at h) refl
+
+pub cores-good : (f : Field) → tag f ≡ 1 → values f ≡ Good → coresFit (getD (f .bytes) 3 0) ≡ true
+unfolding values
+cores-good f e h = good-test (coresFit (getD (f .bytes) 3 0)) _ (rw (eq-eqb _ _ e) at h)
+
+pub values-good : (f : Field) → tag f ≡ 2 → values f ≡ Good → valuesFit (taskIn f) ≡ true
+unfolding values
+values-good f e h = good-test (valuesFit (taskIn f)) _ (rw (ne-eqb (tag f) 1 (λ q. omega arith), eq-eqb _ _ e) at h)
+
+-- a piece that is taken has a kind of 0 or 1
+pub piece-kind : (f : Field) (n : ℕ) → pieceTaken f n ≡ true → getD (f .bytes) 5 0 < 2
+unfolding pieceTaken
+piece-kind f n h = ltb-true (getD (f .bytes) 5 0) 2 (both {b = ltb n 128} h .0)
+
+-- ---- the bytes of a field
+
+listed : (k : ℕ) (xs : List ℕ) → k ≤ length xs → take k xs ≡ tabulate k (λ i. getD xs i 0)
+listed k xs h = tabulate-is k _ (take k xs) 0 (length-take-le k xs h) (λ i l. getD-take k xs i 0 l)
+
+kind-forth : (b : ℕ) → b < 2 → kindByte (kindOf b) ≡ b
+kind-forth b h = go (ℕ-discrete b 1)
+  where
+    go : Dec (b ≡ 1) → kindByte (kindOf b) ≡ b
+    go (yes e) = rw e
+    go (no e) = rw (ne-eqb b 1 e) (omega arith)
+
+module _ (f : Field) (size : length (f .bytes) ≡ 15) (small : (i : ℕ) → getD (f .bytes) i 0 < 256) where
+  length-bytes : (n : ℕ) → n < 256 → number2 (f .bytes) 1 ≡ n → (getD (f .bytes) 1 0 ≡ 0) × (getD (f .bytes) 2 0 ≡ n)
+  length-bytes n h e = (omega (arith, small 1, small 2), omega (arith, small 1, small 2))
+
+  abbrev listed4 : ℕ → List ℕ
+  listed4 i = getD (f .bytes) i 0 ∷ getD (f .bytes) (i + 1) 0 ∷ getD (f .bytes) (i + 2) 0 ∷ getD (f .bytes) (i + 2 + 1) 0 ∷ []
+
+  four : (i : ℕ) → bytes4 (number4 (f .bytes) i) ≡ listed4 i
+  four i = bytes-back _ _ _ _ (small i) (small (i + 1)) (small (i + 2)) (small (i + 2 + 1))
+
+  pub core-text : tag f ≡ 1 → number2 (f .bytes) 1 ≡ lengthFor (tag f) → take 4 (f .bytes) ≡ coreField (getD (f .bytes) 3 0)
+  unfolding coreField tabulate
+  core-text t n = let b : (getD (f .bytes) 1 0 ≡ 0) × (getD (f .bytes) 2 0 ≡ 1) = length-bytes 1 (omega arith) (rw t at n) in listed 4 (f .bytes) (omega arith) ∙ rw (t, b .0, b .1)
+
+  pub task-text : tag f ≡ 2 → number2 (f .bytes) 1 ≡ lengthFor (tag f) → take 15 (f .bytes) ≡ taskField (taskIn f)
+  unfolding taskField tabulate
+  task-text t n =
+      let b : (getD (f .bytes) 1 0 ≡ 0) × (getD (f .bytes) 2 0 ≡ 12) = length-bytes 12 (omega arith) (rw t at n) in
+      let second : bytes4 (number4 (f .bytes) 7) ++ bytes4 (number4 (f .bytes) 11) ≡ listed4 7 ++ listed4 11 = ap (λ (x : List ℕ). x ++ bytes4 (number4 (f .bytes) 11)) (four 7) ∙ ap (λ (x : List ℕ). listed4 7 ++ x) (four 11) in
+      let body : bytes4 (number4 (f .bytes) 3) ++ (bytes4 (number4 (f .bytes) 7) ++ bytes4 (number4 (f .bytes) 11)) ≡ listed4 3 ++ (listed4 7 ++ listed4 11) = ap (λ (x : List ℕ). x ++ (bytes4 (number4 (f .bytes) 7) ++ bytes4 (number4 (f .bytes) 11))) (four 3) ∙ ap (λ (x : List ℕ). listed4 3 ++ x) second in
+      listed 15 (f .bytes) (omega arith) ∙ rw (t, b .0, b .1) (sym (ap (λ (x : List ℕ). 2 ∷ 0 ∷ 12 ∷ x) body))
+
+  pub piece-text : tag f ≡ 3 → number2 (f .bytes) 1 ≡ lengthFor (tag f) → getD (f .bytes) 5 0 < 2 → take 10 (f .bytes) ≡ pieceField (pieceIn f)
+  unfolding pieceField tabulate
+  piece-text t n k = let b : (getD (f .bytes) 1 0 ≡ 0) × (getD (f .bytes) 2 0 ≡ 7) = length-bytes 7 (omega arith) (rw t at n) in listed 10 (f .bytes) (omega arith) ∙ rw (t, b .0, b .1, four 6, kind-forth _ k)
