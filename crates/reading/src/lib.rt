@@ -1,11 +1,10 @@
 // The reader of table and plan files: bytes are taken one after another, so that a file may come in parts.
-ghost use mathlib.Core.Bool.{true, false, _&&_};
+ghost use mathlib.Core.Bool.{true, false};
 ghost use mathlib.Core.Path.{_≡_};
 ghost use Prim.Native.Nat.{_+_, _≤_, _<_};
-ghost use lib.Dec.{leb, eqb};
 ghost use lib.ListN.{replicate};
-ghost use Rattle.reading.specs.Reading.{number2, number4, tag, lengthFor, fieldAt, tagFits, taskIn, pieceIn, values, verdict, hold, further, pieceTaken, nextField, added, refusedField, endedAfter, emptyPlan, begun, read, tableClosed, tableRead, planEnded, planClosed, planRead};
-ghost use Rattle.tasks.specs.Tables.{coresFit, noTask};
+ghost use Rattle.reading.specs.Reading.{number2, number4, tag, lengthFor, fieldAt, tagFits, taskIn, kindOf, pieceIn, values, verdict, hold, further, nextField, added, refusedField, endedAfter, emptyPlan, begun, read, tableClosed, tableRead, planEnded, planClosed, planRead};
+ghost use Rattle.tasks.specs.Tables.{noTask};
 use plans::Kind;
 use plans::Piece;
 use plans::Plan;
@@ -102,14 +101,14 @@ fn further(p: usize, n: usize) -> usize
     18446744073709551615
 }
 
-// Cores m: 1 to 16.
-fn cores_fit(m: u8) -> bool
-    ensures { λ r. ⌜ r ≡ coresFit m ⌝ }
+// The kind of a byte: 0 whole, 1 share.
+fn kind_of(byte: u8) -> Kind
+    ensures { λ r. ⌜ r ≡ kindOf byte ⌝ }
 {
-    if m < 1 {
-        return false;
+    if byte == 1 {
+        return Kind::Share;
     }
-    m <= 16
+    Kind::Whole
 }
 
 impl Field {
@@ -132,17 +131,11 @@ impl Field {
     fn tag_fits(self) -> bool
         ensures { λ r. ⌜ r ≡ tagFits self ⌝ }
     {
-        let tag = self.bytes[0];
-        if tag == 1 {
-            return self.place == 0;
-        }
-        if tag == 2 {
-            return self.place <= self.end;
-        }
-        if tag == 3 {
-            return self.pieces;
-        }
-        false
+        let bytes = self.bytes;
+        let tag = bytes[0];
+        (tag == 1) & (self.place == 0)
+            | (tag == 2) & (self.place <= self.end)
+            | (tag == 3) & self.pieces
     }
 
     // The task of a field with tag 2.
@@ -162,22 +155,11 @@ impl Field {
         ensures { λ r. ⌜ r ≡ pieceIn self ⌝ }
     {
         let bytes = self.bytes;
-        let cost = number4_at(bytes, 6);
-        let task = TaskNo(bytes[3]);
-        let core = CoreNo(bytes[4]);
-        if bytes[5] == 1 {
-            return Piece {
-                task,
-                core,
-                kind: Kind::Share,
-                cost,
-            };
-        }
         Piece {
-            task,
-            core,
-            kind: Kind::Whole,
-            cost,
+            task: TaskNo(bytes[3]),
+            core: CoreNo(bytes[4]),
+            kind: kind_of(bytes[5]),
+            cost: number4_at(bytes, 6),
         }
     }
 
@@ -199,30 +181,19 @@ impl Field {
     fn values(self) -> Verdict
         ensures { λ r. ⌜ r ≡ values self ⌝ }
     {
-        let tag = self.bytes[0];
-        if tag == 1 {
-            if cores_fit(self.bytes[3]) {
-                return Verdict::Good;
-            }
-            return Verdict::Bad(Refusal::CoresAt(Place(self.place)));
+        let bytes = self.bytes;
+        let tag = bytes[0];
+        let m = bytes[3];
+        let place = Place(self.place);
+        let mut refusal = Refusal::CoresAt(place);
+        if (tag == 1) & !((1 <= m) & (m <= 16)) {
+            return Verdict::Bad(refusal);
         }
-        if tag == 2 {
-            if tasks::values_fit(self.task()) {
-                return Verdict::Good;
-            }
-            return Verdict::Bad(Refusal::ValuesAt(Place(self.place)));
+        refusal = Refusal::ValuesAt(place);
+        if (tag == 2) & !tasks::values_fit(self.task()) {
+            return Verdict::Bad(refusal);
         }
         Verdict::Good
-    }
-
-    // Is this a task, after so many that no more may come?
-    fn is_task_past(self, tasks: usize) -> bool
-        ensures { λ r. ⌜ r ≡ (eqb (tag self) 2 && leb 64 tasks) ⌝ }
-    {
-        if self.bytes[0] == 2 {
-            return 64 <= tasks;
-        }
-        false
     }
 
     // Header whole, tag (2), 65th task (6), length (3), body whole, values, after so many tasks.
@@ -232,16 +203,21 @@ impl Field {
         if self.count < 3 {
             return Verdict::Waits;
         }
+        let place = Place(self.place);
+        let mut refusal = Refusal::WrongTag(place);
         if !self.tag_fits() {
-            return Verdict::Bad(Refusal::WrongTag(Place(self.place)));
-        }
-        if self.is_task_past(tasks) {
-            return Verdict::Bad(Refusal::TasksAt(Place(self.place)));
+            return Verdict::Bad(refusal);
         }
         let bytes = self.bytes;
-        let length = length_for(bytes[0]);
+        let tag = bytes[0];
+        refusal = Refusal::TasksAt(place);
+        if (tag == 2) & (64 <= tasks) {
+            return Verdict::Bad(refusal);
+        }
+        let length = length_for(tag);
+        refusal = Refusal::WrongLength(place);
         if number2_at(bytes, 1) as usize != length {
-            return Verdict::Bad(Refusal::WrongLength(Place(self.place)));
+            return Verdict::Bad(refusal);
         }
         if self.count < 3 + length {
             return Verdict::Waits;
@@ -249,27 +225,16 @@ impl Field {
         self.values()
     }
 
-    // Is a piece's kind 0 or 1, and the piece no 129th?
-    fn piece_taken(self, placed: usize) -> bool
-        ensures { λ r. ⌜ r ≡ pieceTaken self placed ⌝ }
-    {
-        if self.bytes[5] < 2 {
-            return placed < 128;
-        }
-        false
-    }
-
     // The next field after this good one.
     fn next(self, placed: usize) -> Field
         ensures { λ r. ⌜ r ≡ nextField self placed ⌝ }
     {
-        let tag = self.bytes[0];
+        let bytes = self.bytes;
+        let tag = bytes[0];
         let p = further(self.place, 3 + length_for(tag));
         if tag == 3 {
-            if self.piece_taken(placed) {
-                return Field::at(self.pieces, p, self.end, self.misshapen);
-            }
-            return Field::at(self.pieces, p, self.end, true);
+            let taken = (bytes[5] < 2) & (placed < 128);
+            return Field::at(self.pieces, p, self.end, self.misshapen | !taken);
         }
         Field::at(self.pieces, p, p, self.misshapen)
     }
@@ -280,9 +245,10 @@ impl Field {
         ensures { λ r. ⌜ r ≡ added self plan ⌝ }
     {
         let mut p = plan;
-        let tag = self.bytes[0];
+        let bytes = self.bytes;
+        let tag = bytes[0];
         if tag == 1 {
-            p.cores = self.bytes[3] as usize;
+            p.cores = bytes[3] as usize;
             return p;
         }
         if tag == 2 {
@@ -292,7 +258,8 @@ impl Field {
             return p;
         }
         let n = plan.placed;
-        if !self.piece_taken(n) {
+        let taken = (bytes[5] < 2) & (n < 128);
+        if !taken {
             return p;
         }
         p.pieces[n] = self.piece();
@@ -321,14 +288,16 @@ impl Field {
         ensures { λ r. ⌜ r ≡ endedAfter self tasks ⌝ }
     {
         let answer = self.answer;
-        if let Answer::Refused(refusal) = answer {
+        if let Answer::Refused(_) = answer {
+            return answer;
+        }
+        let mut refusal = Refusal::CutShort(Place(self.place));
+        if 0 < self.count {
             return Answer::Refused(refusal);
         }
-        if 0 < self.count {
-            return Answer::Refused(Refusal::CutShort(Place(self.place)));
-        }
+        refusal = Refusal::TasksAt(Place(self.end));
         if tasks == 0 {
-            return Answer::Refused(Refusal::TasksAt(Place(self.end)));
+            return Answer::Refused(refusal);
         }
         Answer::Accepted
     }
@@ -426,25 +395,24 @@ pub fn close_table(reader: Reader) -> ReadTable
 {
     let f = reader.field;
     let plan = reader.plan;
-    match f.ended(plan.count) {
-        Answer::Accepted => {
-            let tasks = plan.tasks;
-            ReadTable {
-                answer: Answer::Accepted,
-                table: Table {
-                    cores: plan.cores,
-                    count: plan.count,
-                    tasks,
-                },
-            }
-        }
-        Answer::Refused(refusal) => ReadTable {
-            answer: Answer::Refused(refusal),
+    let answer = f.ended(plan.count);
+    if let Answer::Refused(_) = answer {
+        return ReadTable {
+            answer,
             table: Table {
                 cores: 0,
                 count: 0,
                 tasks: no_tasks(),
             },
+        };
+    }
+    let tasks = plan.tasks;
+    ReadTable {
+        answer,
+        table: Table {
+            cores: plan.cores,
+            count: plan.count,
+            tasks,
         },
     }
 }
@@ -460,15 +428,14 @@ pub fn read_table(bytes: &[u8]) -> ReadTable
 fn plan_ended(f: Field, plan: Plan) -> Answer
     ensures { λ r. ⌜ r ≡ planEnded f plan ⌝ }
 {
-    match f.ended(plan.count) {
-        Answer::Refused(refusal) => Answer::Refused(refusal),
-        Answer::Accepted => {
-            if f.misshapen {
-                return Answer::Refused(Refusal::NoPlanShape);
-            }
-            plans::check_plan(plan)
-        }
+    let answer = f.ended(plan.count);
+    if let Answer::Refused(_) = answer {
+        return answer;
     }
+    if f.misshapen {
+        return Answer::Refused(Refusal::NoPlanShape);
+    }
+    plans::check_plan(plan)
 }
 
 // Ends the reading of a plan file.
@@ -477,16 +444,14 @@ pub fn close_plan(reader: Reader) -> ReadPlan
 {
     let f = reader.field;
     let plan = reader.plan;
-    match plan_ended(f, plan) {
-        Answer::Accepted => ReadPlan {
-            answer: Answer::Accepted,
-            plan,
-        },
-        Answer::Refused(refusal) => ReadPlan {
-            answer: Answer::Refused(refusal),
+    let answer = plan_ended(f, plan);
+    if let Answer::Refused(_) = answer {
+        return ReadPlan {
+            answer,
             plan: empty_plan(0),
-        },
+        };
     }
+    ReadPlan { answer, plan }
 }
 
 // Reads a plan file: any bytes at all.

@@ -25,8 +25,8 @@ use Rattle.reading.specs.declared.Field.{Field}
 use Rattle.reading.specs.declared.Reader.{Reader}
 use Rattle.reading.specs.declared.Verdict.{Verdict}
 use Rattle.reading.specs.declared.Verdict.the-variants.{Waits, Bad, Good}
-use Rattle.reading.proofs.Reading.{piece-room, reader, read-refused, step-good, good-room}
-use Rattle.trips.proofs.Taken.{piece-kind, Found, good-found, waits-short, tag-cases, cores-good, values-good, core-text, task-text, piece-text}
+use Rattle.reading.proofs.Reading.{reader, next-other, cores-added, task-added, read-refused, step-good, good-room}
+use Rattle.trips.proofs.Taken.{piece-room, piece-kind, Found, good-found, waits-short, tag-cases, cores-good, values-good, core-text, task-text, piece-text}
 use Rattle.trips.proofs.Good.{accepted-not-refused}
 use Rattle.trips.proofs.ReadBack.{hold-is, length-most}
 use Rattle.trips.proofs.RoundTrip.{further-is}
@@ -215,20 +215,11 @@ module _ (o : Bool) (s : List ℕ) (g : Field) (p : Plan) (h : Held o s g p) (d 
           }
 
   plain-next : (n : ℕ) → (tag g ≡ 3 → ⊥) → nextField g n ≡ fieldAt (g .pieces) (length s) (length s) (g .misshapen)
-  unfolding nextField
-  plain-next n q = rw (ne-eqb (tag g) 3 q, next-place)
+  plain-next n q = sym (next-other g n (length s) (sym next-place) q)
 
   piece-next : (n : ℕ) (b : Bool) → tag g ≡ 3 → pieceTaken g n ≡ b → nextField g n ≡ fieldAt (g .pieces) (length s) (g .end) (cond b (g .misshapen) true)
   unfolding nextField
   piece-next n b q k = rw (eq-eqb (tag g) 3 q, next-place, k)
-
-  cores-added : tag g ≡ 1 → added g p ≡ withCores p (getD (g .bytes) 3 0)
-  unfolding added
-  cores-added q = rw (eq-eqb (tag g) 1 q)
-
-  task-added : tag g ≡ 2 → added g p ≡ withTask p (taskIn g)
-  unfolding added
-  task-added q = rw (ne-eqb (tag g) 1 (λ k. omega arith), eq-eqb (tag g) 2 q)
 
   piece-added : (b : Bool) → tag g ≡ 3 → pieceTaken g (p .placed) ≡ b → added g p ≡ cond b (withPiece p (pieceIn g)) p
   unfolding added
@@ -242,8 +233,8 @@ module _ (o : Bool) (s : List ℕ) (g : Field) (p : Plan) (h : Held o s g p) (d 
       of-piece t z false k = next-held (g .end) true (h .named) p (omega (arith, h .ends, h .whole)) (λ q. clash z (h .kind ∙ q)) (λ q. clash refl q)
 
       go : ((tag g ≡ 1) × (g .place ≡ 0)) ⊎ (((tag g ≡ 2) × (g .place ≤ g .end)) ⊎ ((tag g ≡ 3) × (g .pieces ≡ true))) → Held o s (nextField g (p .placed)) (added g p)
-      go (inl t) = rw (plain-next (p .placed) (λ q. omega arith), cores-added (t .0)) (taken-cores (t .0) (t .1))
-      go (inr (inl t)) = rw (plain-next (p .placed) (λ q. omega arith), task-added (t .0)) (taken-task (t .0) (t .1) (room (t .0)))
+      go (inl t) = rw (plain-next (p .placed) (λ q. omega arith), ← cores-added g p (t .0)) (taken-cores (t .0) (t .1))
+      go (inr (inl t)) = rw (plain-next (p .placed) (λ q. omega arith), ← task-added g p (λ q. omega arith) (t .0)) (taken-task (t .0) (t .1) (room (t .0)))
       go (inr (inr t)) = rw (piece-next (p .placed) _ (t .0) refl, piece-added _ (t .0) refl) (of-piece (t .0) (t .1) _ refl)
 
 -- ---- a whole file

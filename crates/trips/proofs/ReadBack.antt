@@ -1,5 +1,5 @@
 -- What a field writer writes is read as the field that it was written for.
-use mathlib.Core.Path.{_≡_, refl, ap, _∙_}
+use mathlib.Core.Path.{_≡_, refl, sym, ap, _∙_}
 use mathlib.Core.Bool.{Bool, true, false, _&&_, cond}
 use mathlib.Core.List.{List, [], _∷_, _++_}
 use Prim.Native.Nat.{ℕ, _+_, _/_, _%_, _≤_, _<_}
@@ -7,7 +7,7 @@ use native.Mathlib.Omega.{arith}
 use lib.Dec.{leb, ltb, eqb}
 use lib.ListN.{length, getD, set, replicate}
 use lib.Seq.{getD-set-other}
-use borrow.Author.Tests.{le-leb, lt-leb, lt-ltb, le-ltb}
+use borrow.Author.Tests.{le-leb, lt-leb, lt-ltb}
 use Rattle.tasks.proofs.Tables.{Ranges, values-say}
 use Rattle.tasks.specs.Tables.{coresFit, valuesFit}
 use Rattle.tasks.specs.declared.Answer.the-variants.{Accepted}
@@ -23,7 +23,7 @@ use Rattle.reading.specs.declared.Reader.{Reader}
 use Rattle.reading.specs.declared.Verdict.{Verdict}
 use Rattle.reading.specs.declared.Verdict.the-variants.{Waits}
 use Rattle.trips.proofs.Numbers.{number-back}
-use Rattle.reading.proofs.Reading.{reader, step-good, hold-answer}
+use Rattle.reading.proofs.Reading.{reader, body-waits, body-whole, step-good, hold-answer}
 
 -- a byte more, where there is room for it
 pub hold-is : (f : Field) (b : ℕ) → f .count < 15
@@ -36,16 +36,14 @@ pub record Headed (f : Field) (n : ℕ) : Type 0 where
   pub whole : 3 ≤ f .count
   pub fits : tagFits f ≡ true
   pub room : eqb (tag f) 2 && leb 64 n ≡ false
-  pub size : eqb (number2 (f .bytes) 1) (lengthFor (tag f)) ≡ true
+  pub size : number2 (f .bytes) 1 ≡ lengthFor (tag f)
 
 module _ (f : Field) (n : ℕ) (h : Headed f n) where
   pub headed-waits : f .count < 3 + lengthFor (tag f) → verdict f n ≡ Waits
-  unfolding verdict
-  headed-waits l = rw (le-ltb (f .count) 3 (h .whole), h .fits, h .room, h .size, lt-ltb (f .count) (3 + lengthFor (tag f)) l)
+  headed-waits l = sym (body-waits f n (h .whole) (h .fits) (h .room) (h .size) l)
 
   pub headed-whole : 3 + lengthFor (tag f) ≤ f .count → verdict f n ≡ values f
-  unfolding verdict
-  headed-whole l = rw (le-ltb (f .count) 3 (h .whole), h .fits, h .room, h .size, le-ltb (f .count) (3 + lengthFor (tag f)) l)
+  headed-whole l = sym (body-whole f n (h .whole) (h .fits) (h .room) (h .size) l)
 
   module _ (b : ℕ) (l : f .count < 15) where
     same-byte : (i : ℕ) → i < 3 → getD (set (f .bytes) (f .count) b) i 0 ≡ getD (f .bytes) i 0

@@ -104,7 +104,12 @@ pub values-good : (f : Field) → tag f ≡ 2 → values f ≡ Good → valuesFi
 unfolding values
 values-good f e h = good-test (valuesFit (taskIn f)) _ (rw (ne-eqb (tag f) 1 (λ q. omega arith), eq-eqb _ _ e) at h)
 
--- a piece that is taken has a kind of 0 or 1
+-- a piece that is taken is no 129th
+pub piece-room : (f : Field) (n : ℕ) → pieceTaken f n ≡ true → n < 128
+unfolding pieceTaken
+piece-room f n h = ltb-true n 128 (both {a = ltb (getD (f .bytes) 5 0) 2} h .1)
+
+-- and its kind is 0 or 1
 pub piece-kind : (f : Field) (n : ℕ) → pieceTaken f n ≡ true → getD (f .bytes) 5 0 < 2
 unfolding pieceTaken
 piece-kind f n h = ltb-true (getD (f .bytes) 5 0) 2 (both {b = ltb n 128} h .0)

@@ -10,21 +10,20 @@ ended-requires c κs = search needs
 enum-told : tie.Need-enum-told
 enum-told c = search needs
 
-enum-known-refusal : tie.Need-enum-known-refusal
-enum-known-refusal c = search needs
-
 no-tasks-requires : tie.Need-no-tasks-requires
 no-tasks-requires c κs = search needs
 
 returns : tie.Need-returns
 unfolding tableClosed
-returns c = simp (sym (c .before .before .before .ended .ensures) ∙ c .before .enum-told .given .1)
+returns c = simp (c .before .enum-told .given .1, sym (c .before .before .before .ended .ensures) ∙ c .before .enum-told .given .1, c .no-tasks .ensures)
+
+enum-told-2 : tie.Need-enum-told-2
+enum-told-2 c = search needs
 
 returns-2 : tie.Need-returns-2
 unfolding tableClosed
-returns-2 c = simp (sym (c .before .before .before .before .ended .ensures) ∙ c .before .before .refusal .given .1, c .no-tasks .ensures)
+returns-2 c = simp (c .before .enum-told2 .given .1, sym (c .before .before .before .ended .ensures) ∙ c .before .enum-told2 .given .1)
 
 pub close-table-spec : {M : Type 1} → statement M
 close-table-spec =
-    tie.close
-    (tie.spec ended-requires enum-told enum-known-refusal no-tasks-requires returns returns-2)
+    tie.close (tie.spec ended-requires enum-told no-tasks-requires returns enum-told-2 returns-2)
