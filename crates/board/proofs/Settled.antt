@@ -1,21 +1,15 @@
--- Each public contract settles its result, and that of `step` settles the lent record too; on a refusal the record is as it was and nothing runs.
-use mathlib.Core.List.{List}
+-- Each public contract settles its result, and that of `step` the lent record too; on a refusal the record is as it was and nothing runs.
 use mathlib.Core.Path.{_≡_, sym, _∙_, ap}
-use Prim.Native.Nat.{ℕ}
 use lib.ListN.{replicate}
 use Rattle.tasks.specs.declared.Answer.the-variants.{Refused}
 use Rattle.tasks.specs.declared.Refusal.{Refusal}
-use Rattle.tasks.specs.declared.Table.{Table}
 use Rattle.tasks.proofs.Settling.{Settles, settled}
-use Rattle.plans.specs.declared.Bounding.{Bounding}
-use Rattle.plans.specs.declared.Piece.{Piece}
 use Rattle.plans.specs.declared.Plan.{Plan}
 use Rattle.dispatch.specs.Jobs.{noRun}
 use Rattle.dispatch.specs.Tick.{tick}
 use Rattle.dispatch.specs.declared.State.{State}
 use Rattle.dispatch.specs.declared.Tasks.{Tasks}
 use Rattle.dispatch.proofs.Kept.{refused-nothing}
-use Rattle.board.specs.Lent.{boundLent}
 use Rattle.board.specs.Ran.{ranOf}
 use Rattle.board.specs.declared.Ran.{Ran}
 use Rattle.board.proofs.keep.Reads as keep
@@ -35,6 +29,3 @@ module _ (p : Plan) (s : State) (fs rs : Tasks) where
 
 pub keep-settled : Settles (keep.Post tt)
 keep-settled x e r s p q = settled p q
-
-pub lent-bound-settled : (t : Table) (ys : List Piece) (q : ℕ) (r s : Bounding) → r ≡ boundLent t ys q → s ≡ boundLent t ys q → r ≡ s
-lent-bound-settled t ys q r s = settled

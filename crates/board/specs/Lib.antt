@@ -1,3 +1,1 @@
 pub mod Ran
-pub mod Lent
-pub mod Adding

@@ -1,6 +1,6 @@
 // A case that lends a list: document 01's listing for two cores and (6,10,10) three times. It prints each piece's bound, then a piece past the list and a list without the plan shape.
 ghost use mathlib.Core.Path.{_≡_};
-ghost use Rattle.board.specs.Lent.{boundLent};
+ghost use Rattle.lending.specs.Lent.{boundLent};
 use plans::Bounding;
 use plans::Kind;
 use plans::Margin;
@@ -15,7 +15,7 @@ use tasks::TaskNo;
 fn bound_over(table: Table, pieces: [Piece; 4], q: usize) -> Bounding
     ensures { λ r. ⌜ r ≡ boundLent table pieces q ⌝ }
 {
-    board::lent_bound(table, &pieces, q)
+    lending::lent_bound(table, &pieces, q)
 }
 
 fn piece(task: u8, core: u8, kind: Kind, cost: u32) -> Piece {

@@ -1,4 +1,4 @@
--- `lent::bound_over` meets its contract: a walk of its MIR, by hand. The array in a local is lent as a list for a new lifetime, `board::lent_bound` is called with it, and the array is taken back.
+-- `lent::bound_over` meets its contract: a walk of its MIR, by hand. The array in a local is lent as a list for a new lifetime, `lending::lent_bound` is called with it, and the array is taken back.
 -- Assumes nothing.
 use mathlib.Core.Path.{_≡_, refl, sym, subst}
 use Prim.Native.Nat.{ℕ, _<_, _^_}
@@ -48,13 +48,14 @@ use Rattle.plans.specs.declared.Bounding.{Bounding}
 use Rattle.plans.specs.declared.Piece.{Piece}
 use Rattle.plans.proofs.Piece as Z
 use Rattle.plans.proofs.Piece.Laws as Z′
-use Rattle.board.specs.Lent.{boundLent}
-use Rattle.board.proofs.Walk as held
-use Rattle.board.proofs.Walk.{pieces, boundings, answers, lends, listVal, Own, Token}
-use Rattle.board.proofs.lent_bound as lent-bound
-use Rattle.board.proofs.lent_bound.Symbol as lent-bound-def
-use Rattle.board.proofs.lent_bound.Symbol.{name as #board·lent-bound}
-use Rattle.board.proofs.lent_bound.Met as lent-bound-thm
+use Rattle.lending.specs.Lent.{boundLent}
+use Rattle.lending.proofs.Walk as held
+use Rattle.board.proofs.Walk.{answers}
+use Rattle.lending.proofs.Walk.{pieces, boundings, lends, listVal, Own, Token}
+use Rattle.lending.proofs.lent_bound as lent-bound
+use Rattle.lending.proofs.lent_bound.Symbol as lent-bound-def
+use Rattle.lending.proofs.lent_bound.Symbol.{name as #lending·lent-bound}
+use Rattle.lending.proofs.lent_bound.Met as lent-bound-thm
 use Rattle.lent.proofs.bound_over.Key.{name as #lent·bound-over}
 use Rattle.lent.proofs.bound_over as bound-over
 use Rattle.lent.proofs.bound_over.Statement as stated
@@ -124,7 +125,7 @@ module _ {M : Type 1} (𝓤 : URA M) (H : Heap 𝓤) (A : Atoms 𝓤) (mem : Mem
     abbrev listed : Ty
     listed = sliceTy (tyRef erased imm (pointee (Z.the-row .written)))
 
-    module _ (C : Calls 𝓤 H) (Λ : Loops 𝓤 H) (fm : FmC 𝓤 H (W .laws) C) (known : Triple 𝓤 (C #board·lent-bound) LentBound) where
+    module _ (C : Calls 𝓤 H) (Λ : Loops 𝓤 H) (fm : FmC 𝓤 H (W .laws) C) (known : Triple 𝓤 (C #lending·lent-bound) LentBound) where
       walk : ent 𝓤 (onEntry 𝓤 H A bound-over.signature tt tt (t, (ys, (k, tt))) at) (WpFn 𝓤 H C Λ code.function (held.tables .val t ∷ av ys ∷ vint w64 k ∷ []) Post)
       walk =
           qed W (‵ ftrue ∷ ‵ (owns (held.tables .row ∷ Four ∷ usize ∷ []) (t, (ys, (k, tt))) at) ∷ []) ∵ move ! (1 ∷ []) $ fsplit ! $ drop ! $ fsplit ! $ keep ! (0 ∷ []) $
@@ -157,7 +158,7 @@ module _ {M : Type 1} (𝓤 : URA M) (H : Heap 𝓤) (A : Atoms 𝓤) (mem : Mem
           move ! (13 ∷ 14 ∷ []) $ free1 ! $ move ! (11 ∷ 12 ∷ []) $ free1 ! $ move ! (9 ∷ 10 ∷ []) $ free1 ! $ move ! (7 ∷ 8 ∷ []) $ free1 ! $ move ! (1 ∷ 6 ∷ []) $ free1 ! $ move ! (3 ∷ 4 ∷ []) $ free1 ! $ move ! (1 ∷ 2 ∷ []) $ free1 ! $ free0 ! $
           by ! (exits r u is-r e))))))))))))
 
-  module _ (W : Given 𝓤 H A) (𝓣 : Tables 𝓤 H) (known : Triple 𝓤 (𝓣 .C #board·lent-bound) LentBound) where
+  module _ (W : Given 𝓤 H A) (𝓣 : Tables 𝓤 H) (known : Triple 𝓤 (𝓣 .C #lending·lent-bound) LentBound) where
     bound-over-walks : Walks 𝓤 H A bound-over.ended stayed (WpFn 𝓤 H (𝓣 .C) (𝓣 .Λ) code.function) (bound-over.clauses 𝓤 H A mem run)
     bound-over-walks = walked 𝓤 H A bound-over.ended stayed (bound-over.clauses 𝓤 H A mem run) (WpFn 𝓤 H (𝓣 .C) (𝓣 .Λ) code.function)
         (λ κs. ((λ x. held.tables .val x ∷ []), ((λ ys. av ys ∷ []), (uint-vals w64, tt)))) (λ κs. (held.tables .tells, (array-tells Z.the-row (λ x. pieces .val x ∷ []) (pieces .tells) 4, (uint-tells w64, tt))))
@@ -175,4 +176,4 @@ bound-over-spec 𝓤 H 𝓜 𝓖 𝓡 =
     entered 𝓤 H (tripleOf 𝓤 H (𝓖 .A) bound-over.signature (bound-over.spec 𝓤 H (𝓖 .A) (𝓜 .mem) (𝓡 .run)))
     (tables 𝓤 H 𝓜 𝓡 code.env .C) (tables 𝓤 H 𝓜 𝓡 code.env .Λ) #lent·bound-over code.function (code.unfolded 𝓤 H 𝓜 𝓡)
     (bound-over-meets 𝓤 H (𝓖 .A) (𝓜 .mem) (𝓡 .run) (givenOf 𝓤 H 𝓜 𝓖) (tablesOf 𝓤 H 𝓜 (tables 𝓤 H 𝓜 𝓡 code.env))
-    (cited 𝓤 H (LentBound 𝓤 H (𝓖 .A) (𝓜 .mem) (𝓡 .run)) 𝓜 𝓡 code.env #board·lent-bound lent-bound-def.routine code.calls-board·lent-bound (lent-bound-thm.met 𝓤 H 𝓜 𝓖 𝓡)))
+    (cited 𝓤 H (LentBound 𝓤 H (𝓖 .A) (𝓜 .mem) (𝓡 .run)) 𝓜 𝓡 code.env #lending·lent-bound lent-bound-def.routine code.calls-lending·lent-bound (lent-bound-thm.met 𝓤 H 𝓜 𝓖 𝓡)))

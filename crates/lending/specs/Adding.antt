@@ -20,7 +20,7 @@ use Rattle.plans.specs.declared.Bounding.the-variants.{Known}
 use Rattle.plans.specs.declared.Bounding.the-variants as bounding
 use Rattle.plans.specs.declared.Piece.{Piece}
 use Rattle.plans.specs.declared.Plan.{Plan}
-use Rattle.board.specs.declared.Adding.{Adding}
+use Rattle.lending.specs.declared.Adding.{Adding}
 
 -- the piece at place j of a lent list
 abbrev pub lentPiece : List Piece → ℕ → Piece

@@ -1,12 +1,12 @@
 use native.Mathlib.Omega.{arith}
 use mathlib.Core.Path.{_≡_}
 use Rattle.plans.specs.Rank.{above}
-use Rattle.board.specs.Adding.{pressureOn, added}
+use Rattle.lending.specs.Adding.{pressureOn, added}
 use borrow.Author.Needs.{needs}
-use Rattle.board.proofs.add.Statement.{statement}
-use Rattle.board.proofs.add.Tie as tie
-use Rattle.board.proofs.add.Reads as reads
-use Rattle.board.proofs.add.Lts as lts
+use Rattle.lending.proofs.add.Statement.{statement}
+use Rattle.lending.proofs.add.Tie as tie
+use Rattle.lending.proofs.add.Reads as reads
+use Rattle.lending.proofs.add.Lts as lts
 use Rattle.plans.proofs.pressure.Reads as pressure-reads
 use Rattle.tasks.proofs.TaskNo.index.Reads as index-reads
 

@@ -1,9 +1,9 @@
 use borrow.Author.Needs.{needs}
-use Rattle.board.proofs.unplaced.Statement.{statement}
-use Rattle.board.proofs.unplaced.Tie as tie
-use Rattle.board.proofs.unplaced.Reads as reads
-use Rattle.board.proofs.unplaced.Lts as lts
-use Rattle.board.proofs.no_piece.Reads as no-piece-reads
+use Rattle.lending.proofs.unplaced.Statement.{statement}
+use Rattle.lending.proofs.unplaced.Tie as tie
+use Rattle.lending.proofs.unplaced.Reads as reads
+use Rattle.lending.proofs.unplaced.Lts as lts
+use Rattle.lending.proofs.no_piece.Reads as no-piece-reads
 
 -- src/lib.rt:83:9
 no-piece-requires : tie.Need-no-piece-requires

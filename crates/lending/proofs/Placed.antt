@@ -20,9 +20,9 @@ use Rattle.plans.specs.declared.Piece.{Piece}
 use Rattle.plans.specs.declared.Plan.{Plan}
 use Rattle.plans.proofs.InShape.{accepted-plan, plan-moderate, asked-refused}
 use Rattle.dispatch.proofs.SamePlans.{checked-same}
-use Rattle.board.specs.Adding.{lentPiece, upTo, unplacedOf, placedOn}
-use Rattle.board.specs.Lent.{lentPlan}
-use Rattle.board.proofs.SameBounds.{asked-same}
+use Rattle.lending.specs.Adding.{lentPiece, upTo, unplacedOf, placedOn}
+use Rattle.lending.specs.Lent.{lentPlan}
+use Rattle.lending.proofs.SameBounds.{asked-same}
 
 -- a piece that finds room stands at the end, and one that finds none is counted
 placed-room : (p : Plan) (z : Piece) → p .placed < 128

@@ -14,7 +14,7 @@ use Rattle.plans.specs.Pieces.{taskOf, pieceOf, earlier}
 use Rattle.plans.specs.Shape.{checkedPlan}
 use Rattle.plans.specs.declared.Plan.{Plan}
 use Rattle.plans.proofs.InShape.{GoodPlan, accepted-plan, plan-moderate, earlier-within, fits}
-use Rattle.board.specs.Adding.{askedOf, begun, beginOf}
+use Rattle.lending.specs.Adding.{askedOf, begun, beginOf}
 
 clashing : {A : Type 0} {r : Refusal} → _≡_ {A = Answer} (Refused r) Accepted → A
 clashing e = let z : _≡_ {A = ℕ} 0 1 = cc in absurd (omega arith)

@@ -20,12 +20,12 @@ use Rattle.plans.specs.declared.Bounding.the-variants as bounding
 use Rattle.plans.specs.declared.Piece.{Piece}
 use Rattle.plans.specs.declared.Plan.{Plan}
 use Rattle.plans.proofs.Sums.{load-none, load-small, local-small}
-use Rattle.board.specs.Adding.{lentPiece, upTo, askedOf, begun, beginOf, taskIn, pressureOn, added, Bearable, boundingOf}
-use Rattle.board.specs.Lent.{lentPlan, boundLent}
-use Rattle.board.specs.declared.Adding.{Adding}
-use Rattle.board.proofs.Begun.{begun-by, asked-plan, asked-moderate, asked-place}
-use Rattle.board.proofs.Placed.{whole, accepted-same, asked-lent}
-use Rattle.board.proofs.SameBounds.{load-same}
+use Rattle.lending.specs.Adding.{lentPiece, upTo, askedOf, begun, beginOf, taskIn, pressureOn, added, Bearable, boundingOf}
+use Rattle.lending.specs.Lent.{lentPlan, boundLent}
+use Rattle.lending.specs.declared.Adding.{Adding}
+use Rattle.lending.proofs.Begun.{begun-by, asked-plan, asked-moderate, asked-place}
+use Rattle.lending.proofs.Placed.{whole, accepted-same, asked-lent}
+use Rattle.lending.proofs.SameBounds.{load-same}
 
 abbrev withBound : Adding → ℕ → Adding
 withBound s x = record { answer = s .answer; reach = s .reach; tasks = s .tasks; piece = s .piece; deadline = s .deadline; bound = x }

@@ -1,4 +1,4 @@
--- `board::lent_piece` meets its contract: a walk of its MIR, by hand. The shared slice is looked into, the element is taken out, copied whole, and put back.
+-- `lending::lent_piece` meets its contract: a walk of its MIR, by hand. The shared slice is looked into, the element is taken out, copied whole, and put back.
 -- Assumes nothing.
 use mathlib.Core.Path.{refl, sym}
 use Prim.Native.Nat.{ℕ, _<_, _^_}
@@ -38,13 +38,13 @@ use denote.Triple.Walked.{says, needs, Stays, stay-none, stay-none-slice, walkOf
 use denote.Exit.{yes}
 use Rattle.plans.specs.Pieces.{noPiece}
 use Rattle.plans.specs.declared.Piece.{Piece}
-use Rattle.board.specs.Adding.{lentPiece}
+use Rattle.lending.specs.Adding.{lentPiece}
 use Rattle.plans.proofs.Piece as P
 use Rattle.plans.proofs.Piece.Laws as P′
-use Rattle.board.proofs.lent_piece.Key.{name as #board·lent-piece}
-use Rattle.board.proofs.lent_piece as lent-piece
-use Rattle.board.proofs.lent_piece.Statement as stated
-use Rattle.board.proofs.lent_piece.Code as code
+use Rattle.lending.proofs.lent_piece.Key.{name as #lending·lent-piece}
+use Rattle.lending.proofs.lent_piece as lent-piece
+use Rattle.lending.proofs.lent_piece.Statement as stated
+use Rattle.lending.proofs.lent_piece.Code as code
 
 abbrev stayed : Stays (lent-piece.ended .signature .params) (lent-piece.ended .kept)
 stayed = (stay-none-slice (0 ∷ []) tt (plain (λ _. P.the-row)) yes, (stay-none (λ _. usize) yes, tt))
@@ -111,5 +111,5 @@ pub lent-piece-spec : {M : Type 1} → stated.statement M
 unfolding code.routine tablesOf
 lent-piece-spec 𝓤 H 𝓜 𝓖 𝓡 =
     entered 𝓤 H (tripleOf 𝓤 H (𝓖 .A) lent-piece.signature (lent-piece.spec 𝓤 H (𝓖 .A) (𝓜 .mem) (𝓡 .run)))
-    (tables 𝓤 H 𝓜 𝓡 code.env .C) (tables 𝓤 H 𝓜 𝓡 code.env .Λ) #board·lent-piece code.function (code.unfolded 𝓤 H 𝓜 𝓡)
+    (tables 𝓤 H 𝓜 𝓡 code.env .C) (tables 𝓤 H 𝓜 𝓡 code.env .Λ) #lending·lent-piece code.function (code.unfolded 𝓤 H 𝓜 𝓡)
     (lent-piece-meets 𝓤 H (𝓖 .A) (givenOf 𝓤 H 𝓜 𝓖) (𝓜 .mem) (𝓡 .run) (tablesOf 𝓤 H 𝓜 (tables 𝓤 H 𝓜 𝓡 code.env)))

@@ -1,10 +1,10 @@
 use mathlib.Core.Path.{sym, _∙_}
-use Rattle.board.proofs.Begun.{asked-refused, asked-inside, asked-past}
+use Rattle.lending.proofs.Begun.{asked-refused, asked-inside, asked-past}
 use borrow.Author.Needs.{needs}
-use Rattle.board.proofs.asked.Statement.{statement}
-use Rattle.board.proofs.asked.Tie as tie
-use Rattle.board.proofs.asked.Reads as reads
-use Rattle.board.proofs.asked.Lts as lts
+use Rattle.lending.proofs.asked.Statement.{statement}
+use Rattle.lending.proofs.asked.Tie as tie
+use Rattle.lending.proofs.asked.Reads as reads
+use Rattle.lending.proofs.asked.Lts as lts
 use Rattle.plans.proofs.check_plan.Reads as check-plan-reads
 
 -- src/lib.rt:111:9

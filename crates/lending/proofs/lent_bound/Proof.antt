@@ -1,4 +1,4 @@
--- `board::lent_bound` meets its contract: a walk of its MIR, by hand. The pieces are placed on a plan, the plan is checked, and the pieces of the lent list are added up; each part is a call, and the walk has no branch.
+-- `lending::lent_bound` meets its contract: a walk of its MIR, by hand. The pieces are placed on a plan, the plan is checked, and the pieces of the lent list are added up; each part is a call, and the walk has no branch.
 -- Assumes nothing.
 use mathlib.Core.Path.{_≡_, refl}
 use Prim.Native.Nat.{ℕ, _≤_, _<_, _^_}
@@ -34,40 +34,41 @@ use Rattle.tasks.specs.declared.Table.{Table}
 use Rattle.plans.specs.declared.Bounding.{Bounding}
 use Rattle.plans.specs.declared.Piece.{Piece}
 use Rattle.plans.specs.declared.Plan.{Plan}
-use Rattle.board.specs.Adding.{lentPiece, upTo, unplacedOf, placedOn, beginOf, added, Bearable, boundingOf}
-use Rattle.board.specs.Lent.{boundLent}
-use Rattle.board.specs.declared.Adding.{Adding}
-use Rattle.board.proofs.Summed.{starts, sums-up}
-use Rattle.board.proofs.Walk as held
-use Rattle.board.proofs.Walk.{pieces, plans, addings, boundings, passes, lends, answers, listVal, Own, Token, Begins, Ends, ends, meets}
-use Rattle.board.proofs.unplaced as unplaced
-use Rattle.board.proofs.unplaced.Symbol as unplaced-def
-use Rattle.board.proofs.unplaced.Symbol.{name as #board·unplaced}
-use Rattle.board.proofs.unplaced.Met as unplaced-thm
-use Rattle.board.proofs.place_all as place-all
-use Rattle.board.proofs.place_all.Symbol as place-all-def
-use Rattle.board.proofs.place_all.Symbol.{name as #board·place-all}
-use Rattle.board.proofs.place_all.Met as place-all-thm
-use Rattle.board.proofs.begin as begin
-use Rattle.board.proofs.begin.Symbol as begin-def
-use Rattle.board.proofs.begin.Symbol.{name as #board·begin}
-use Rattle.board.proofs.begin.Met as begin-thm
-use Rattle.board.proofs.reach as reach
-use Rattle.board.proofs.reach.Symbol as reach-def
-use Rattle.board.proofs.reach.Symbol.{name as #board·reach}
-use Rattle.board.proofs.reach.Met as reach-thm
-use Rattle.board.proofs.add_all as add-all
-use Rattle.board.proofs.add_all.Symbol as add-all-def
-use Rattle.board.proofs.add_all.Symbol.{name as #board·add-all}
-use Rattle.board.proofs.add_all.Met as add-all-thm
-use Rattle.board.proofs.bounding as bounding
-use Rattle.board.proofs.bounding.Symbol as bounding-def
-use Rattle.board.proofs.bounding.Symbol.{name as #board·bounding}
-use Rattle.board.proofs.bounding.Met as bounding-thm
-use Rattle.board.proofs.lent_bound.Key.{name as #board·lent-bound}
-use Rattle.board.proofs.lent_bound as lent-bound
-use Rattle.board.proofs.lent_bound.Statement as stated
-use Rattle.board.proofs.lent_bound.Code as code
+use Rattle.lending.specs.Adding.{lentPiece, upTo, unplacedOf, placedOn, beginOf, added, Bearable, boundingOf}
+use Rattle.lending.specs.Lent.{boundLent}
+use Rattle.lending.specs.declared.Adding.{Adding}
+use Rattle.lending.proofs.Summed.{starts, sums-up}
+use Rattle.lending.proofs.Walk as held
+use Rattle.board.proofs.Walk.{plans, passes, answers}
+use Rattle.lending.proofs.Walk.{pieces, addings, boundings, lends, listVal, Own, Token, Begins, Ends, ends, meets}
+use Rattle.lending.proofs.unplaced as unplaced
+use Rattle.lending.proofs.unplaced.Symbol as unplaced-def
+use Rattle.lending.proofs.unplaced.Symbol.{name as #lending·unplaced}
+use Rattle.lending.proofs.unplaced.Met as unplaced-thm
+use Rattle.lending.proofs.place_all as place-all
+use Rattle.lending.proofs.place_all.Symbol as place-all-def
+use Rattle.lending.proofs.place_all.Symbol.{name as #lending·place-all}
+use Rattle.lending.proofs.place_all.Met as place-all-thm
+use Rattle.lending.proofs.begin as begin
+use Rattle.lending.proofs.begin.Symbol as begin-def
+use Rattle.lending.proofs.begin.Symbol.{name as #lending·begin}
+use Rattle.lending.proofs.begin.Met as begin-thm
+use Rattle.lending.proofs.reach as reach
+use Rattle.lending.proofs.reach.Symbol as reach-def
+use Rattle.lending.proofs.reach.Symbol.{name as #lending·reach}
+use Rattle.lending.proofs.reach.Met as reach-thm
+use Rattle.lending.proofs.add_all as add-all
+use Rattle.lending.proofs.add_all.Symbol as add-all-def
+use Rattle.lending.proofs.add_all.Symbol.{name as #lending·add-all}
+use Rattle.lending.proofs.add_all.Met as add-all-thm
+use Rattle.lending.proofs.bounding as bounding
+use Rattle.lending.proofs.bounding.Symbol as bounding-def
+use Rattle.lending.proofs.bounding.Symbol.{name as #lending·bounding}
+use Rattle.lending.proofs.bounding.Met as bounding-thm
+use Rattle.lending.proofs.lent_bound.Key.{name as #lending·lent-bound}
+use Rattle.lending.proofs.lent_bound as lent-bound
+use Rattle.lending.proofs.lent_bound.Statement as stated
+use Rattle.lending.proofs.lent_bound.Code as code
 
 module _ {M : Type 1} (𝓤 : URA M) (H : Heap 𝓤) (A : Atoms 𝓤) (mem : Memory → SProp 𝓤) (run : Routine → Fun 𝓤) where
   -- the contracts that the proof cites
@@ -90,12 +91,12 @@ module _ {M : Type 1} (𝓤 : URA M) (H : Heap 𝓤) (A : Atoms 𝓤) (mem : Mem
   BoundingOf = tripleOf 𝓤 H A bounding.signature (bounding.spec 𝓤 H A mem run)
 
   record Known (C : Calls 𝓤 H) : Type 2 where
-    pub unplaced : Triple 𝓤 (C #board·unplaced) Unplaced
-    pub place-all : Triple 𝓤 (C #board·place-all) PlaceAll
-    pub begin : Triple 𝓤 (C #board·begin) Begin
-    pub reach : Triple 𝓤 (C #board·reach) Reach
-    pub add-all : Triple 𝓤 (C #board·add-all) AddAll
-    pub bounding : Triple 𝓤 (C #board·bounding) BoundingOf
+    pub unplaced : Triple 𝓤 (C #lending·unplaced) Unplaced
+    pub place-all : Triple 𝓤 (C #lending·place-all) PlaceAll
+    pub begin : Triple 𝓤 (C #lending·begin) Begin
+    pub reach : Triple 𝓤 (C #lending·reach) Reach
+    pub add-all : Triple 𝓤 (C #lending·add-all) AddAll
+    pub bounding : Triple 𝓤 (C #lending·bounding) BoundingOf
 
   module _ (W : Given 𝓤 H A) (κ : Lft) (q : Share) (t : Table) (l : RefT (List Piece)) (k : ℕ) (is-t : Is (held.tables .row) t (held.tables .val t ∷ [])) (room : Room (pieces .row) (length (l .now))) (k-fits : k < 2 ^ 64) where
     abbrev ys : List Piece
@@ -179,15 +180,15 @@ pub lent-bound-spec : {M : Type 1} → stated.statement M
 unfolding code.routine tablesOf
 lent-bound-spec 𝓤 H 𝓜 𝓖 𝓡 =
     entered 𝓤 H (tripleOf 𝓤 H (𝓖 .A) lent-bound.signature (lent-bound.spec 𝓤 H (𝓖 .A) (𝓜 .mem) (𝓡 .run)))
-    (tables 𝓤 H 𝓜 𝓡 code.env .C) (tables 𝓤 H 𝓜 𝓡 code.env .Λ) #board·lent-bound code.function (code.unfolded 𝓤 H 𝓜 𝓡)
+    (tables 𝓤 H 𝓜 𝓡 code.env .C) (tables 𝓤 H 𝓜 𝓡 code.env .Λ) #lending·lent-bound code.function (code.unfolded 𝓤 H 𝓜 𝓡)
     (let W = givenOf 𝓤 H 𝓜 𝓖 in
     let 𝓣 = tablesOf 𝓤 H 𝓜 (tables 𝓤 H 𝓜 𝓡 code.env) in
     meets 𝓤 H (𝓖 .A) W held.tables boundings (lent-bound.clauses 𝓤 H (𝓖 .A) (𝓜 .mem) (𝓡 .run)) code.function 𝓣 (λ t l k. Unit {0}) (λ κ t l k g. factI 𝓤 (Unit {0}) _ tt)
     (λ κ q t l k g is-t room k-fits asked. walk 𝓤 H (𝓖 .A) (𝓜 .mem) (𝓡 .run) W κ q t l k is-t room k-fits (𝓣 .C) (𝓣 .Λ) (fmOf 𝓤 H (W .laws) 𝓣) (record {
-      unplaced = cited 𝓤 H (Unplaced 𝓤 H (𝓖 .A) (𝓜 .mem) (𝓡 .run)) 𝓜 𝓡 code.env #board·unplaced unplaced-def.routine code.calls-board·unplaced (unplaced-thm.met 𝓤 H 𝓜 𝓖 𝓡);
-      place-all = cited 𝓤 H (PlaceAll 𝓤 H (𝓖 .A) (𝓜 .mem) (𝓡 .run)) 𝓜 𝓡 code.env #board·place-all place-all-def.routine code.calls-board·place-all (place-all-thm.met 𝓤 H 𝓜 𝓖 𝓡);
-      begin = cited 𝓤 H (Begin 𝓤 H (𝓖 .A) (𝓜 .mem) (𝓡 .run)) 𝓜 𝓡 code.env #board·begin begin-def.routine code.calls-board·begin (begin-thm.met 𝓤 H 𝓜 𝓖 𝓡);
-      reach = cited 𝓤 H (Reach 𝓤 H (𝓖 .A) (𝓜 .mem) (𝓡 .run)) 𝓜 𝓡 code.env #board·reach reach-def.routine code.calls-board·reach (reach-thm.met 𝓤 H 𝓜 𝓖 𝓡);
-      add-all = cited 𝓤 H (AddAll 𝓤 H (𝓖 .A) (𝓜 .mem) (𝓡 .run)) 𝓜 𝓡 code.env #board·add-all add-all-def.routine code.calls-board·add-all (add-all-thm.met 𝓤 H 𝓜 𝓖 𝓡);
-      bounding = cited 𝓤 H (BoundingOf 𝓤 H (𝓖 .A) (𝓜 .mem) (𝓡 .run)) 𝓜 𝓡 code.env #board·bounding bounding-def.routine code.calls-board·bounding (bounding-thm.met 𝓤 H 𝓜 𝓖 𝓡);
+      unplaced = cited 𝓤 H (Unplaced 𝓤 H (𝓖 .A) (𝓜 .mem) (𝓡 .run)) 𝓜 𝓡 code.env #lending·unplaced unplaced-def.routine code.calls-lending·unplaced (unplaced-thm.met 𝓤 H 𝓜 𝓖 𝓡);
+      place-all = cited 𝓤 H (PlaceAll 𝓤 H (𝓖 .A) (𝓜 .mem) (𝓡 .run)) 𝓜 𝓡 code.env #lending·place-all place-all-def.routine code.calls-lending·place-all (place-all-thm.met 𝓤 H 𝓜 𝓖 𝓡);
+      begin = cited 𝓤 H (Begin 𝓤 H (𝓖 .A) (𝓜 .mem) (𝓡 .run)) 𝓜 𝓡 code.env #lending·begin begin-def.routine code.calls-lending·begin (begin-thm.met 𝓤 H 𝓜 𝓖 𝓡);
+      reach = cited 𝓤 H (Reach 𝓤 H (𝓖 .A) (𝓜 .mem) (𝓡 .run)) 𝓜 𝓡 code.env #lending·reach reach-def.routine code.calls-lending·reach (reach-thm.met 𝓤 H 𝓜 𝓖 𝓡);
+      add-all = cited 𝓤 H (AddAll 𝓤 H (𝓖 .A) (𝓜 .mem) (𝓡 .run)) 𝓜 𝓡 code.env #lending·add-all add-all-def.routine code.calls-lending·add-all (add-all-thm.met 𝓤 H 𝓜 𝓖 𝓡);
+      bounding = cited 𝓤 H (BoundingOf 𝓤 H (𝓖 .A) (𝓜 .mem) (𝓡 .run)) 𝓜 𝓡 code.env #lending·bounding bounding-def.routine code.calls-lending·bounding (bounding-thm.met 𝓤 H 𝓜 𝓖 𝓡);
     })))

@@ -1,14 +1,14 @@
 use native.Mathlib.Omega.{arith}
 use mathlib.Core.Path.{sym, _∙_}
 use Rattle.plans.specs.Bound.{localDeadline}
-use Rattle.board.proofs.Begun.{begun-by, asked-moderate, asked-place, spent-within}
+use Rattle.lending.proofs.Begun.{begun-by, asked-moderate, asked-place, spent-within}
 use borrow.Author.Needs.{needs}
-use Rattle.board.proofs.begin.Statement.{statement}
-use Rattle.board.proofs.begin.Tie as tie
-use Rattle.board.proofs.begin.Reads as reads
-use Rattle.board.proofs.begin.Lts as lts
-use Rattle.board.proofs.asked.Reads as asked-reads
-use Rattle.board.proofs.no_piece.Reads as no-piece-reads
+use Rattle.lending.proofs.begin.Statement.{statement}
+use Rattle.lending.proofs.begin.Tie as tie
+use Rattle.lending.proofs.begin.Reads as reads
+use Rattle.lending.proofs.begin.Lts as lts
+use Rattle.lending.proofs.asked.Reads as asked-reads
+use Rattle.lending.proofs.no_piece.Reads as no-piece-reads
 use Rattle.plans.proofs.earlier.Reads as earlier-reads
 use Rattle.tasks.proofs.TaskNo.index.Reads as index-reads
 

@@ -20,7 +20,7 @@ use Rattle.plans.specs.declared.Piece.{Piece}
 use Rattle.plans.specs.declared.Plan.{Plan}
 use Rattle.plans.proofs.InShape.{accepted-plan, fits, asked-refused, asked-past, asked-known}
 use Rattle.dispatch.proofs.SamePlans.{costs-same, checked-same}
-use Rattle.board.specs.Lent.{lentPlan, boundLent}
+use Rattle.lending.specs.Lent.{lentPlan, boundLent}
 
 -- the interference of the pieces ranked above b is the same where the first n pieces are
 pub load-same : (ts : ℕ → Task) (pc qc : ℕ → Piece) (n : ℕ) → ((j : ℕ) → j < n → pc j ≡ qc j) → (b : Piece) (L : ℕ) → load ts pc n b L ≡ load ts qc n b L

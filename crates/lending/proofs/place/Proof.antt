@@ -1,10 +1,10 @@
 use borrow.Author.Tests.{lt-ltb, le-ltb}
-use Rattle.board.specs.Adding.{placedOn}
+use Rattle.lending.specs.Adding.{placedOn}
 use borrow.Author.Needs.{needs}
-use Rattle.board.proofs.place.Statement.{statement}
-use Rattle.board.proofs.place.Tie as tie
-use Rattle.board.proofs.place.Reads as reads
-use Rattle.board.proofs.place.Lts as lts
+use Rattle.lending.proofs.place.Statement.{statement}
+use Rattle.lending.proofs.place.Tie as tie
+use Rattle.lending.proofs.place.Reads as reads
+use Rattle.lending.proofs.place.Lts as lts
 
 -- src/lib.rt:99:9
 mul-piece : tie.Need-mul-piece

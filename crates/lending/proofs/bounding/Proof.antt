@@ -1,8 +1,8 @@
 use borrow.Author.Needs.{needs}
-use Rattle.board.proofs.bounding.Statement.{statement}
-use Rattle.board.proofs.bounding.Tie as tie
-use Rattle.board.proofs.bounding.Reads as reads
-use Rattle.board.proofs.bounding.Lts as lts
+use Rattle.lending.proofs.bounding.Statement.{statement}
+use Rattle.lending.proofs.bounding.Tie as tie
+use Rattle.lending.proofs.bounding.Reads as reads
+use Rattle.lending.proofs.bounding.Lts as lts
 use Rattle.plans.proofs.margin_of.Reads as margin-of-reads
 
 -- src/lib.rt:184:25
