@@ -1,2 +1,4 @@
 pub mod Walk
+pub mod Calls
+pub mod Keeping
 pub mod Settled

@@ -127,4 +127,3 @@ holds false t = absurd t
 pub fails : (b : Bool) → (Holds b → ⊥) → b ≡ false
 fails true f = absurd (f tt)
 fails false f = refl
-
