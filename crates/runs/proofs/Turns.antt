@@ -1,15 +1,18 @@
 -- Laws of the loops over tasks and ticks: one more of each.
-use mathlib.Core.Path.{_≡_, refl, ap, _∙_}
+use mathlib.Core.Path.{_≡_, refl, ap}
 use mathlib.Core.Bool.{Bool, true, false, cond}
 use Prim.Native.Nat.{ℕ, zero, suc, _+_, _≤_}
 use native.Mathlib.Numerals.{add-one}
 use native.Mathlib.Omega.{arith}
+use lib.ListN.{replicate}
 use Rattle.plans.specs.declared.Plan.{Plan}
+use Rattle.dispatch.specs.Jobs.{freshState}
 use Rattle.dispatch.specs.declared.State.{State}
 use Rattle.dispatch.specs.declared.Tasks.{Tasks}
+use Rattle.board.specs.Kept.{keptFor}
 use Rattle.runs.specs.Allowed.{allowed, withTask, allowedBelow, fullTick, stateAfter}
 use Rattle.runs.specs.Watched.{watchTick, watched}
-use Rattle.runs.specs.declared.Watched.{Watched}
+use Rattle.runs.specs.Watching.{watchedFrom}
 
 -- a set has grown by one at most
 joined-few : (b : Bool) (u : Tasks) (i : ℕ) → cond b (withTask u i) u .count ≤ suc (u .count)
@@ -30,6 +33,8 @@ pub after-turn : (p : Plan) (n : ℕ) (s : State) → s ≡ stateAfter p n → f
 unfolding stateAfter
 after-turn p n s e = rw (add-one, e)
 
-pub watched-turn : (p : Plan) (n : ℕ) (w r : Watched) → w ≡ watched p n → r ≡ watchTick p w → r ≡ watched p (n + 1)
-unfolding watched
-watched-turn p n w r e h = rw (add-one, ← e) h
+-- a run from a fresh state, seen as a loop that keeps one record
+pub watched-kept : (p : Plan) (n : ℕ) → watchedFrom (record { longest = replicate 64 0 }) p freshState n ≡ watched p n
+unfolding keptFor watched watchTick
+watched-kept p zero = refl
+watched-kept p (suc n) = ap (watchTick p) (watched-kept p n)

@@ -1,3 +1,4 @@
 pub mod Allowed
 pub mod Watched
+pub mod Watching
 pub mod Requests

@@ -7,7 +7,9 @@ ghost use lib.ListN.{length};
 ghost use Rattle.dispatch.specs.Jobs.{byPhase, names};
 ghost use Rattle.runs.specs.Allowed.{noTasks, withTask, allowedSet, fullTick};
 ghost use Rattle.runs.specs.Requests.{tasksAt, requestSize, refusedRequest, requestRead};
-ghost use Rattle.runs.specs.Watched.{ranIn, watchTick, watched};
+ghost use Rattle.runs.specs.Watched.{ranIn, watched};
+ghost use Rattle.runs.specs.Watching.{saw, watchedAt, watchedFrom};
+use board::Ran;
 use dispatch::CoreRun;
 use dispatch::Job;
 use dispatch::Phase;
@@ -26,6 +28,11 @@ use tasks::TaskNo;
 pub struct Watched {
     pub state: State,
     pub longest: [u32; 64],
+}
+
+// The longest response seen of each task so far.
+struct Seen {
+    longest: [u32; 64],
 }
 
 // A tick's two sets, or why the bytes hold none.
@@ -136,39 +143,67 @@ fn age_if(ran: bool, job: Job) -> u32
     if ran { job.age } else { 0 }
 }
 
-// One more tick, and what is seen in it.
-fn watch_tick(plan: Plan, watched: Watched) -> Watched
-    ensures { λ r. ⌜ r ≡ watchTick plan watched ⌝ }
+// No task is finished.
+fn none_finished(_seen: Seen, _plan: Plan, _state: State) -> Tasks
+    ensures { λ r. ⌜ r ≡ noTasks ⌝ }
 {
-    let before = watched.state;
-    let ticked = full_tick(plan, before);
-    let state = ticked.state;
-    let runs = ticked.runs;
+    no_tasks()
+}
+
+// Every task is released that may be.
+fn all_released(_seen: Seen, plan: Plan, state: State) -> Tasks
+    ensures { λ r. ⌜ r ≡ allowedSet plan state ⌝ }
+{
+    all_allowed(plan, state)
+}
+
+// What is seen in a tick.
+fn see(seen: Seen, plan: Plan, ran: Ran, state: State) -> Seen
+    ensures { λ r. ⌜ r ≡ saw seen plan ran state ⌝ }
+{
+    let runs = ran.runs;
     let count = smaller(plan.count, 64);
     let mut longest = [0u32; 64];
     let mut i = 0;
     while i < count {
         let age = age_if(ran_in(plan.cores, runs, i), state.jobs[i]);
-        longest[i] = larger(watched.longest[i], age);
+        longest[i] = larger(seen.longest[i], age);
         i += 1;
     }
+    Seen { longest }
+}
+
+// What was seen, and the last state.
+fn watched_at(seen: Seen, state: State) -> Watched
+    ensures { λ r. ⌜ r ≡ watchedAt seen state ⌝ }
+{
+    let longest = seen.longest;
     Watched { state, longest }
+}
+
+// So many ticks at full rate from a state, which is the record that is kept here and stepped where it stands.
+fn watch_from(mut seen: Seen, plan: Plan, mut state: State, ticks: usize) -> Watched
+    ensures { λ r. ⌜ r ≡ watchedFrom seen plan state ticks ⌝ }
+{
+    let mut n: usize = 0;
+    while n < ticks {
+        let finished = none_finished(seen, plan, state);
+        let released = all_released(seen, plan, state);
+        let ran = board::step(&mut state, plan, finished, released);
+        seen = see(seen, plan, ran, state);
+        n += 1;
+    }
+    watched_at(seen, state)
 }
 
 // So many ticks from a fresh state at full rate.
 pub fn watch(plan: Plan, ticks: usize) -> Watched
     ensures { λ r. ⌜ r ≡ watched plan ticks ⌝ }
 {
-    let mut seen = Watched {
-        state: dispatch::fresh(),
+    let seen = Seen {
         longest: [0u32; 64],
     };
-    let mut n = 0;
-    while n < ticks {
-        seen = watch_tick(plan, seen);
-        n += 1;
-    }
-    seen
+    watch_from(seen, plan, dispatch::fresh(), ticks)
 }
 
 // A byte as an index.

@@ -1,31 +1,20 @@
 use borrow.Author.Needs.{needs}
-use Rattle.runs.specs.Watched.{seen, watchedIn, watchTick}
+use Rattle.runs.specs.Watched as watched
 use Rattle.tasks.proofs.Tabulate.{padded-start}
 use Rattle.tasks.proofs.Padded.{padded-turn}
 use Rattle.tasks.specs.Below.{padded}
 use lib.ListN.{getD}
 use Prim.Native.Nat.{_≤_, _-_, max}
 use native.Mathlib.Omega.{arith}
-use mathlib.Core.Path.{_≡_, refl, sym, ap, _∙_}
-use Rattle.runs.proofs.watch_tick.Statement.{statement}
-use Rattle.runs.proofs.watch_tick.Tie as tie
-use Rattle.runs.proofs.watch_tick.Reads as reads
-use Rattle.runs.proofs.watch_tick.Lts as lts
-use Rattle.runs.proofs.age_if.Reads as age-if-reads
-use Rattle.runs.proofs.full_tick.Reads as full-tick-reads
-use Rattle.runs.proofs.larger.Reads as larger-reads
-use Rattle.runs.proofs.ran_in.Reads as ran-in-reads
-use Rattle.runs.proofs.smaller.Reads as smaller-reads
+use mathlib.Core.Path.{_≡_}
+use Rattle.runs.proofs.see.Statement.{statement}
+use Rattle.runs.proofs.see.Tie as tie
 
 abbrev Inv-loop : tie.InvT-loop
-Inv-loop plan watched state runs count longest₀ i₀ longest i = (i ≤ count) × (count ≤ 64) × (longest ≡ padded 64 i 0 (λ k. max (getD (watched .longest) k 0) (seen (plan .cores) runs state k)))
+Inv-loop plan seen state runs count longest₀ i₀ longest i = (i ≤ count) × (count ≤ 64) × (longest ≡ padded 64 i 0 (λ k. max (getD (seen .longest) k 0) (watched.seen (plan .cores) runs state k)))
 
 abbrev μ-loop : tie.MeasureT-loop
-μ-loop plan watched state runs count longest₀ i₀ longest i = count - i
-
--- src/lib.rt:146:9
-full-tick-requires : tie.Need-full-tick-requires Inv-loop μ-loop
-full-tick-requires c κs = search needs
+μ-loop plan seen state runs count longest₀ i₀ longest i = count - i
 
 -- src/lib.rt:149:9
 smaller-requires : tie.Need-smaller-requires Inv-loop μ-loop
@@ -85,16 +74,14 @@ loop-again c = (search needs, search needs, padded-turn 64 0 _ _ _ _ (omega arit
 
 -- src/lib.rt:142:1
 returns : tie.Need-returns Inv-loop μ-loop
-unfolding watchTick
-returns c = let e : c .before .loop .i ≡ c .before .before .smaller .result = omega arith in simp (c .before .loop .inv .2, e, c .before .before .smaller .ensures, c .before .before .before .before .before .full-tick .ensures)
+returns c = let e : c .before .loop .i ≡ c .before .before .smaller .result = omega arith in simp (c .before .loop .inv .2, e, c .before .before .smaller .ensures)
 
-pub watch-tick-spec : {M : Type 1} → statement M
-watch-tick-spec =
+pub see-spec : {M : Type 1} → statement M
+see-spec =
     tie.close
     (tie.spec
     Inv-loop
     μ-loop
-    full-tick-requires
     smaller-requires
     loop-holds
     ran-in-requires
