@@ -38,10 +38,10 @@ use denote.Signature.{plain}
 use denote.Steps.{only, owned, heard, facts, nothing}
 use denote.Struct.Steps.{spelt}
 use denote.Triple.Call.{calls-at}
-use denote.Triple.Clauses.{Ended, Clauses, closing, Lasts, lasts, atExit}
+use denote.Triple.Clauses.{Ended, Clauses, closing, Lasts, lasts}
 use denote.Triple.Spec.{Meets, tripleOf}
 use denote.Triple.Statement.{Contract, Triple}
-use denote.Triple.Walked.{Stays, stay-none, walkOf, goes-none, ends-at, walked, walk-meets}
+use denote.Triple.Walked.{says, Stays, stay-none, walkOf, AllGo, goes-none, Walks, ends-at, walked, walk-meets}
 use Rattle.plans.specs.declared.Plan.{Plan}
 use Rattle.dispatch.specs.Tick.{tick}
 use Rattle.dispatch.specs.declared.State.{State}
@@ -52,7 +52,7 @@ use Rattle.board.specs.Kept.{keptFor}
 use Rattle.board.specs.Ran.{ranOf}
 use Rattle.board.specs.declared.Ran.{Ran}
 use Rattle.board.proofs.Walk.{Held, plans, states, sets, rans, beside, still, word, one-more, holds, fails}
-use Rattle.board.proofs.Calls.{Told, asks, byValue, Says, Equation, told}
+use Rattle.board.proofs.Calls.{Told, asks, Equates, told}
 use Rattle.board.proofs.step as step
 use Rattle.board.proofs.step.Symbol.{name as #board·step}
 
@@ -290,12 +290,9 @@ module _ {M : Type 1} (𝓤 : URA M) (H : Heap 𝓤) (A : Atoms 𝓤) (at-mem : 
                     (via 𝓤 (guard 𝓤 (Facts n 0) (Here 0)) (guardI 𝓤 (Facts n 0) (Here 0) (zero-add n, is-x, is-s)) (exI 𝓤 (λ (j : ℕ). guard 𝓤 (Facts n j) (Here j)) 0))
                     (loop-rule 𝓤 H (W .laws) 𝓣 _<_ (Nat·lt-wfRel .wf) En (turn #F #R #S) Left Inv turns n)
 
-        abbrev lastly : X .row .Denot → State → Y .row .Denot
-        lastly x s = E (keptFor F R S p n x s .0) (keptFor F R S p n x s .1)
-
         -- the walk of the whole function
         keeps : (x : X .row .Denot) (s : State) (Post : Val → SProp 𝓤) → Fit x → Good s
-            → (Is (Y .row) (lastly x s) (Y .val (lastly x s) ∷ []) → ent 𝓤 (emp 𝓤) (Post (Y .val (lastly x s))))
+            → (Is (Y .row) (E (keptFor F R S p n x s .0) (keptFor F R S p n x s .1)) (Y .val (E (keptFor F R S p n x s .0) (keptFor F R S p n x s .1)) ∷ []) → ent 𝓤 (emp 𝓤) (Post (Y .val (E (keptFor F R S p n x s .0) (keptFor F R S p n x s .1)))))
             → ent 𝓤 (emp 𝓤) (WpFn 𝓤 H C Λ (keeping (X .type) (Y .type) #F #R #S #E) (X .val x ∷ plans .val p ∷ states .val s ∷ vint w64 n ∷ []) Post)
         keeps x s Post is-x is-s exits =
             qed W [] ∵ enter ! C Λ (keeping (X .type) (Y .type) #F #R #S #E) (X .val x ∷ plans .val p ∷ states .val s ∷ vint w64 n ∷ []) _ $
@@ -308,48 +305,49 @@ module _ {M : Type 1} (𝓤 : URA M) (H : Heap 𝓤) (A : Atoms 𝓤) (at-mem : 
             by ! (loops l₀ l₁ l₂ l₃ l₄ l₅ l₆ l₇ l₈ l₉ l₁₀ l₁₁ l₁₂ l₁₃ Post x s exits is-x is-s)))))))))))))))
 
 module _ {M : Type 1} (𝓤 : URA M) (H : Heap 𝓤) (A : Atoms 𝓤) (at-mem : Memory → SProp 𝓤) (run : Routine → Fun 𝓤) (W : Given 𝓤 H A) (X Y : Held)
-    (F R : X .row .Denot → Plan → State → Tasks) (S : X .row .Denot → Plan → Ran → State → X .row .Denot) (E : X .row .Denot → State → Y .row .Denot) (#F #R #S #E : Name)
-    (c : Clauses 𝓤 (looping X Y)) (f r : Clauses 𝓤 (byValue (X ∷ plans ∷ states ∷ []) sets)) (v : Clauses 𝓤 (byValue (X ∷ plans ∷ rans ∷ states ∷ []) X)) (e : Clauses 𝓤 (byValue (X ∷ states ∷ []) Y)) where
+    (F R : X .row .Denot → Plan → State → Tasks) (S : X .row .Denot → Plan → Ran → State → X .row .Denot) (E : X .row .Denot → State → Y .row .Denot) (#F #R #S #E : Name) where
+  -- the contract of such a loop: it asks nothing, and the result is made of what was seen and of the record after n ticks
+  abbrev lastly : X .row .Denot → Plan → State → ℕ → Y .row .Denot
+  lastly x p s n = E (keptFor F R S p n x s .0) (keptFor F R S p n x s .1)
+
+  abbrev clauses : Clauses 𝓤 (looping X Y)
+  clauses κs a = record { ghost = Unit {0}; requires = λ g. emp 𝓤; ensures = λ g r ws. fact 𝓤 (r ≡ lastly (a .0) (a .1 .0) (a .1 .1 .0) (a .1 .1 .1 .0)) }
+
   abbrev stayed : Stays (looping X Y .signature .params) (looping X Y .kept)
   stayed = (stay-none (λ _. still (X .row)) yes, (stay-none (λ _. plans .row) yes, (stay-none (λ _. states .row) yes, (stay-none (λ _. usize) yes, tt))))
+
+  module _ (x : X .row .Denot) (p : Plan) (s : State) (n : ℕ) (is-x : Is (X .row) x (X .val x ∷ [])) (is-p : Is (plans .row) p (plans .val p ∷ [])) (is-s : Good s) (fits : n < 2 ^ 64) where
+    abbrev binds : walkOf 𝓤 H A (looping X Y) stayed clauses .Ghost
+    binds = ((tt, tt, tt, (x, (p, (s, (n, tt)))), (X .val x ∷ [], (plans .val p ∷ [], (states .val s ∷ [], (vint w64 n ∷ [], tt))))), tt)
+
+    ends : Is (Y .row) (lastly x p s n) (Y .val (lastly x p s n) ∷ []) → ent 𝓤 (emp 𝓤) (walkOf 𝓤 H A (looping X Y) stayed clauses .post binds (Y .val (lastly x p s n)))
+    ends is-y =
+        qed W [] ∵ suffices ! _ (ends-at 𝓤 H A (looping X Y) stayed clauses W binds (Y .val (lastly x p s n)) (lastly x p s n) (tt, (tt, (tt, (tt, tt)))) (tt, (tt, (tt, (tt, tt))))) $ says ! refl $
+        owned ! (Y .row) (Is (Y .row)) (Y .makes 𝓤 H A) (lastly x p s n) _ is-y $ nothing ! $ owned ! usize (Is usize) (uint-makes 𝓤 H A W w64) n _ (refl, fits) $ fjoin ! $
+        owned ! (states .row) (Is (states .row)) (states .makes 𝓤 H A) s _ is-s $ fjoin ! $ owned ! (plans .row) (Is (plans .row)) (plans .makes 𝓤 H A) p _ is-p $ fjoin ! $
+        owned ! (X .row) (Is (X .row)) (X .makes 𝓤 H A) x _ is-x $ fjoin ! $ nothing ! $ done !
 
   abbrev code : Fn
   code = keeping (X .type) (Y .type) #F #R #S #E
 
-  module _ (x : X .row .Denot) (p : Plan) (s : State) (n : ℕ) (g : c tt (x, (p, (s, (n, tt)))) .ghost) where
-    abbrev binds : walkOf 𝓤 H A (looping X Y) stayed c .Ghost
-    binds = ((tt, tt, tt, (x, (p, (s, (n, tt)))), (X .val x ∷ [], (plans .val p ∷ [], (states .val s ∷ [], (vint w64 n ∷ [], tt))))), g)
+  module _ (𝓣 : Tables 𝓤 H) (known : Triple 𝓤 (𝓣 .C #board·step) (Step 𝓤 H A at-mem run))
+      (known-f : Triple 𝓤 (𝓣 .C #F) (Equates 𝓤 H A W (X ∷ plans ∷ states ∷ []) sets (λ a. F (a .0) (a .1 .0) (a .1 .1 .0)))) (known-r : Triple 𝓤 (𝓣 .C #R) (Equates 𝓤 H A W (X ∷ plans ∷ states ∷ []) sets (λ a. R (a .0) (a .1 .0) (a .1 .1 .0))))
+      (known-s : Triple 𝓤 (𝓣 .C #S) (Equates 𝓤 H A W (X ∷ plans ∷ rans ∷ states ∷ []) X (λ a. S (a .0) (a .1 .0) (a .1 .1 .0) (a .1 .1 .1 .0)))) (known-e : Triple 𝓤 (𝓣 .C #E) (Equates 𝓤 H A W (X ∷ states ∷ []) Y (λ a. E (a .0) (a .1 .0)))) where
+    kept-walks : Walks 𝓤 H A (looping X Y) stayed (WpFn 𝓤 H (𝓣 .C) (𝓣 .Λ) code) clauses
+    kept-walks = walked 𝓤 H A (looping X Y) stayed clauses (WpFn 𝓤 H (𝓣 .C) (𝓣 .Λ) code)
+        (λ κs. ((λ x. X .val x ∷ []), ((λ p. plans .val p ∷ []), ((λ s. states .val s ∷ []), (uint-vals w64, tt))))) (λ κs. (X .tells, (plans .tells, (states .tells, (uint-tells w64, tt)))))
+        (λ κs qs bounds a g are. via 𝓤 _ (fst∗ 𝓤 _ (emp 𝓤)) (via 𝓤 (emp 𝓤)
+        (fst∗ 𝓤 (emp 𝓤) (sem 𝓤 H A (owns (X .row ∷ plans .row ∷ states .row ∷ usize ∷ []) a (X .val (a .0) ∷ [], (plans .val (a .1 .0) ∷ [], (states .val (a .1 .1 .0) ∷ [], (vint w64 (a .1 .1 .1 .0) ∷ [], tt)))))))
+        (keeps 𝓤 H A at-mem run W X Y F R S E #F #R #S #E (a .1 .0) (are .1 .0) (a .1 .1 .1 .0) (are .1 .1 .1 .0 .1) 𝓣 known
+        (λ x s is-x is-s. told 𝓤 H A W (X ∷ plans ∷ states ∷ []) sets _ (𝓣 .C) #F known-f (x, (a .1 .0, (s, tt))) (is-x, (are .1 .0, (is-s, tt))))
+        (λ x s is-x is-s. told 𝓤 H A W (X ∷ plans ∷ states ∷ []) sets _ (𝓣 .C) #R known-r (x, (a .1 .0, (s, tt))) (is-x, (are .1 .0, (is-s, tt))))
+        (λ x r s is-x is-r is-s. told 𝓤 H A W (X ∷ plans ∷ rans ∷ states ∷ []) X _ (𝓣 .C) #S known-s (x, (a .1 .0, (r, (s, tt)))) (is-x, (are .1 .0, (is-r, (is-s, tt)))))
+        (λ x s is-x is-s. told 𝓤 H A W (X ∷ states ∷ []) Y _ (𝓣 .C) #E known-e (x, (s, tt)) (is-x, (is-s, tt)))
+        (a .0) (a .1 .1 .0) _ (are .0) (are .1 .1 .0) (ends (a .0) (a .1 .0) (a .1 .1 .0) (a .1 .1 .1 .0) (are .0) (are .1 .0) (are .1 .1 .0) (are .1 .1 .1 .0 .1)))))
 
-    -- it comes to a result of which the `ensures` holds
-    ends : Is (X .row) x (X .val x ∷ []) → Is (plans .row) p (plans .val p ∷ []) → Good s → n < 2 ^ 64 → (y : Y .row .Denot) → ent 𝓤 (emp 𝓤) (c tt (x, (p, (s, (n, tt)))) .ensures g y (atExit (looping X Y) tt (x, (p, (s, (n, tt)))) (tt, (tt, (tt, (tt, tt))))))
-        → Is (Y .row) y (Y .val y ∷ []) → ent 𝓤 (emp 𝓤) (walkOf 𝓤 H A (looping X Y) stayed c .post binds (Y .val y))
-    ends is-x is-p is-s fits y says is-y =
-        qed W [] ∵ suffices ! _ (ends-at 𝓤 H A (looping X Y) stayed c W binds (Y .val y) y (tt, (tt, (tt, (tt, tt)))) (tt, (tt, (tt, (tt, tt))))) $ beside ! says $
-        owned ! (Y .row) (Is (Y .row)) (Y .makes 𝓤 H A) y _ is-y $ nothing ! $ owned ! usize (Is usize) (uint-makes 𝓤 H A W w64) n _ (refl, fits) $ fjoin ! $
-        owned ! (states .row) (Is (states .row)) (states .makes 𝓤 H A) s _ is-s $ fjoin ! $ owned ! (plans .row) (Is (plans .row)) (plans .makes 𝓤 H A) p _ is-p $ fjoin ! $
-        owned ! (X .row) (Is (X .row)) (X .makes 𝓤 H A) x _ is-x $ fjoin ! $ nothing ! $ done !
+    goes : AllGo 𝓤 H A W 0 (looping X Y .signature .params) (looping X Y .kept) stayed
+    goes = (goes-none 𝓤 H A W 0 (λ _. still (X .row)) yes (λ κs x f. refl), (goes-none 𝓤 H A W 0 (λ _. plans .row) yes (λ κs x f. refl), (goes-none 𝓤 H A W 0 (λ _. states .row) yes (λ κs x f. refl), (goes-none 𝓤 H A W 0 (λ _. usize) yes (λ κs x f. refl), tt))))
 
-  -- the contract of such a loop, from those of the functions that it calls
-  pub keeps-meet : Equation 𝓤 (X ∷ plans ∷ states ∷ []) sets f (λ a. F (a .0) (a .1 .0) (a .1 .1 .0)) → Equation 𝓤 (X ∷ plans ∷ states ∷ []) sets r (λ a. R (a .0) (a .1 .0) (a .1 .1 .0))
-      → Equation 𝓤 (X ∷ plans ∷ rans ∷ states ∷ []) X v (λ a. S (a .0) (a .1 .0) (a .1 .1 .0) (a .1 .1 .1 .0)) → Equation 𝓤 (X ∷ states ∷ []) Y e (λ a. E (a .0) (a .1 .0))
-      → ((x : X .row .Denot) (p : Plan) (s : State) (n : ℕ) (g : c tt (x, (p, (s, (n, tt)))) .ghost)
-      → ent 𝓤 (emp 𝓤) (c tt (x, (p, (s, (n, tt)))) .ensures g (E (keptFor F R S p n x s .0) (keptFor F R S p n x s .1)) (atExit (looping X Y) tt (x, (p, (s, (n, tt)))) (tt, (tt, (tt, (tt, tt)))))))
-      → (𝓣 : Tables 𝓤 H) → Triple 𝓤 (𝓣 .C #board·step) (Step 𝓤 H A at-mem run)
-      → Triple 𝓤 (𝓣 .C #F) (Says 𝓤 H A W (X ∷ plans ∷ states ∷ []) sets f) → Triple 𝓤 (𝓣 .C #R) (Says 𝓤 H A W (X ∷ plans ∷ states ∷ []) sets r)
-      → Triple 𝓤 (𝓣 .C #S) (Says 𝓤 H A W (X ∷ plans ∷ rans ∷ states ∷ []) X v) → Triple 𝓤 (𝓣 .C #E) (Says 𝓤 H A W (X ∷ states ∷ []) Y e)
-      → Meets 𝓤 H A (looping X Y .signature) (WpFn 𝓤 H (𝓣 .C) (𝓣 .Λ) code) (closing 𝓤 H A (looping X Y) c)
-  keeps-meet is-f is-r is-v is-e says 𝓣 known known-f known-r known-v known-e =
-      walk-meets 𝓤 H A (looping X Y) stayed W
-      (goes-none 𝓤 H A W 0 (λ _. still (X .row)) yes (λ κs x f. refl), (goes-none 𝓤 H A W 0 (λ _. plans .row) yes (λ κs x f. refl), (goes-none 𝓤 H A W 0 (λ _. states .row) yes (λ κs x f. refl), (goes-none 𝓤 H A W 0 (λ _. usize) yes (λ κs x f. refl), tt))))
-      c (WpFn 𝓤 H (𝓣 .C) (𝓣 .Λ) code) (WpFn-mono 𝓤 H (W .laws) 𝓣 code)
-      (walked 𝓤 H A (looping X Y) stayed c (WpFn 𝓤 H (𝓣 .C) (𝓣 .Λ) code)
-      (λ κs. ((λ x. X .val x ∷ []), ((λ p. plans .val p ∷ []), ((λ s. states .val s ∷ []), (uint-vals w64, tt))))) (λ κs. (X .tells, (plans .tells, (states .tells, (uint-tells w64, tt)))))
-      (λ κs qs bounds a g are. via 𝓤 _ (fst∗ 𝓤 _ (c κs a .requires g)) (via 𝓤 (emp 𝓤)
-      (fst∗ 𝓤 (emp 𝓤) (sem 𝓤 H A (owns (X .row ∷ plans .row ∷ states .row ∷ usize ∷ []) a (X .val (a .0) ∷ [], (plans .val (a .1 .0) ∷ [], (states .val (a .1 .1 .0) ∷ [], (vint w64 (a .1 .1 .1 .0) ∷ [], tt)))))))
-      (keeps 𝓤 H A at-mem run W X Y F R S E #F #R #S #E (a .1 .0) (are .1 .0) (a .1 .1 .1 .0) (are .1 .1 .1 .0 .1) 𝓣 known
-      (λ x s is-x is-s. told 𝓤 H A W (X ∷ plans ∷ states ∷ []) sets f _ is-f (𝓣 .C) #F known-f (x, (a .1 .0, (s, tt))) (is-x, (are .1 .0, (is-s, tt))))
-      (λ x s is-x is-s. told 𝓤 H A W (X ∷ plans ∷ states ∷ []) sets r _ is-r (𝓣 .C) #R known-r (x, (a .1 .0, (s, tt))) (is-x, (are .1 .0, (is-s, tt))))
-      (λ x ran s is-x is-ran is-s. told 𝓤 H A W (X ∷ plans ∷ rans ∷ states ∷ []) X v _ is-v (𝓣 .C) #S known-v (x, (a .1 .0, (ran, (s, tt)))) (is-x, (are .1 .0, (is-ran, (is-s, tt)))))
-      (λ x s is-x is-s. told 𝓤 H A W (X ∷ states ∷ []) Y e _ is-e (𝓣 .C) #E known-e (x, (s, tt)) (is-x, (is-s, tt)))
-      (a .0) (a .1 .1 .0) _ (are .0) (are .1 .1 .0)
-      (ends (a .0) (a .1 .0) (a .1 .1 .0) (a .1 .1 .1 .0) g (are .0) (are .1 .0) (are .1 .1 .0) (are .1 .1 .1 .0 .1) _ (says (a .0) (a .1 .0) (a .1 .1 .0) (a .1 .1 .1 .0) g))))))
+    -- the loop meets its contract, if each function that it calls meets the one above
+    pub keeps-meet : Meets 𝓤 H A (looping X Y .signature) (WpFn 𝓤 H (𝓣 .C) (𝓣 .Λ) code) (closing 𝓤 H A (looping X Y) clauses)
+    keeps-meet = walk-meets 𝓤 H A (looping X Y) stayed W goes clauses (WpFn 𝓤 H (𝓣 .C) (𝓣 .Λ) code) (WpFn-mono 𝓤 H (W .laws) 𝓣 code) kept-walks

@@ -1,9 +1,9 @@
--- Each public contract settles its result, and that of `step` the lent record too; on a refusal the record is as it was and nothing runs.
+-- The contract of `step` settles its result and the lent record; on a refusal the record is as it was and nothing runs.
 use mathlib.Core.Path.{_≡_, sym, _∙_, ap}
 use lib.ListN.{replicate}
 use Rattle.tasks.specs.declared.Answer.the-variants.{Refused}
 use Rattle.tasks.specs.declared.Refusal.{Refusal}
-use Rattle.tasks.proofs.Settling.{Settles, settled}
+use Rattle.tasks.proofs.Settling.{settled}
 use Rattle.plans.specs.declared.Plan.{Plan}
 use Rattle.dispatch.specs.Jobs.{noRun}
 use Rattle.dispatch.specs.Tick.{tick}
@@ -12,7 +12,6 @@ use Rattle.dispatch.specs.declared.Tasks.{Tasks}
 use Rattle.dispatch.proofs.Kept.{refused-nothing}
 use Rattle.board.specs.Ran.{ranOf}
 use Rattle.board.specs.declared.Ran.{Ran}
-use Rattle.board.proofs.keep.Reads as keep
 
 module _ (p : Plan) (s : State) (fs rs : Tasks) where
   -- what `step` ensures: r is answered, and the record is n at exit
@@ -26,6 +25,3 @@ module _ (p : Plan) (s : State) (fs rs : Tasks) where
   refused-stays r n x h e =
       let said = refused-nothing p s fs rs x (sym (ap (λ (u : Ran). u .answer) (h .0)) ∙ e) in
       (h .1 ∙ said .0, ap (λ (u : Ran). u .runs) (h .0) ∙ said .1)
-
-pub keep-settled : Settles (keep.Post tt)
-keep-settled x e r s p q = settled p q

@@ -1,7 +1,7 @@
 // The dispatcher's record, which is stepped where it stands.
 ghost use mathlib.Core.Path.{_≡_};
 ghost use Rattle.dispatch.specs.Tick.{tick as ticked};
-ghost use Rattle.board.specs.Ran.{ranOf, tickedOf};
+ghost use Rattle.board.specs.Ran.{ranOf};
 use dispatch::CoreRun;
 use dispatch::State;
 use dispatch::Tasks;
@@ -39,26 +39,4 @@ pub fn step(state: &mut State, plan: Plan, finished: Tasks, released: Tasks) -> 
     let ticked = dispatch::tick(plan, here, finished, released);
     *state = next_of(ticked);
     ran_of(ticked)
-}
-
-// What a tick shows and the record that it leaves, together.
-fn ticked_of(ran: Ran, state: State) -> Ticked
-    ensures { λ r. ⌜ r ≡ tickedOf ran state ⌝ }
-{
-    let answer = ran.answer;
-    let runs = ran.runs;
-    Ticked {
-        answer,
-        runs,
-        state,
-    }
-}
-
-// One tick for a caller that passes the record by value: it is kept here and stepped where it stands.
-pub fn keep(state: State, plan: Plan, finished: Tasks, released: Tasks) -> Ticked
-    ensures { λ r. ⌜ r ≡ ticked plan state finished released ⌝ }
-{
-    let mut kept = state;
-    let ran = step(&mut kept, plan, finished, released);
-    ticked_of(ran, kept)
 }

@@ -48,7 +48,7 @@ use Rattle.plans.proofs.Bounding as B
 use Rattle.plans.proofs.Bounding.Laws as B′
 use Rattle.plans.proofs.Piece as Z
 use Rattle.plans.proofs.Piece.Laws as Z′
-use Rattle.board.proofs.Walk.{Held, struct, plans, passes, answers, beside, turned, still, word, one-more, holds, fails}
+use Rattle.board.proofs.Walk.{Held, struct, passes, answers, beside, turned, still, word, one-more, holds, fails}
 use Rattle.lending.proofs.Adding as D
 use Rattle.lending.proofs.Adding.Laws as D′
 use Rattle.lending.specs.Adding.{lentPiece, upTo}

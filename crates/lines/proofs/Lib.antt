@@ -1,2 +1,3 @@
 pub mod Putting
 pub mod Whole
+pub mod Running

@@ -2,11 +2,15 @@
 ghost use mathlib.Core.Path.{_≡_};
 ghost use Prim.Native.Nat.{_+_, _≤_, _<_, min};
 ghost use Rattle.tasks.specs.Refusals.{tells, number as numbered};
+ghost use Rattle.runs.specs.Allowed.{noTasks, allowedSet};
+ghost use Rattle.lines.specs.Running.{withLine, withTotals, ranFrom};
 ghost use Rattle.lines.specs.Text.{noText, put, puts, textOf, decimal, digits};
 ghost use Rattle.lines.specs.Lines.{meant, toldText, refusalText, headText, kindText, pieceText, listingText, plannedText, listerText, gapText, runnerText, runsText, tickedText, totalsText, runText, runnerProgramText, responseText, watchedText};
+use board::Ran;
 use dispatch::CoreRun;
 use dispatch::Runner;
 use dispatch::State;
+use dispatch::Tasks;
 use dispatch::Ticked;
 use layout::Planned;
 use plans::Kind;
@@ -17,6 +21,7 @@ use reading::ReadTable;
 use runs::Watched;
 use tasks::Answer;
 use tasks::Refusal;
+use tasks::TaskNo;
 
 // The first `count` of `bytes`. What it cannot hold is left out.
 pub struct Text {
@@ -278,16 +283,7 @@ impl Text {
     fn run(self, plan: Plan, ticks: usize) -> Text
         ensures { λ r. ⌜ r ≡ puts self (runText plan ticks) ⌝ }
     {
-        let mut t = self;
-        let mut state = dispatch::fresh();
-        let mut k = 0;
-        while k < ticks {
-            let ticked = runs::full_tick(plan, state);
-            t = t.ticked(plan.cores, ticked);
-            state = ticked.state;
-            k += 1;
-        }
-        t.totals(state.late, state.preemptions)
+        run_from(self, plan, dispatch::fresh(), ticks)
     }
 
     // A task's longest response beside its deadline.
@@ -303,6 +299,59 @@ impl Text {
             .number(deadline as u64)
             .words(b"\n")
     }
+}
+
+// No task is finished.
+fn none_finished(_text: Text, _plan: Plan, _state: State) -> Tasks
+    ensures { λ r. ⌜ r ≡ noTasks ⌝ }
+{
+    Tasks {
+        members: [TaskNo(0); 64],
+        count: 0,
+    }
+}
+
+// Every task is released that may be.
+fn all_released(_text: Text, plan: Plan, state: State) -> Tasks
+    ensures { λ r. ⌜ r ≡ allowedSet plan state ⌝ }
+{
+    runs::all_allowed(plan, state)
+}
+
+// A tick's line more.
+fn with_line(text: Text, plan: Plan, ran: Ran, state: State) -> Text
+    ensures { λ r. ⌜ r ≡ withLine text plan ran state ⌝ }
+{
+    let answer = ran.answer;
+    let runs = ran.runs;
+    let ticked = Ticked {
+        answer,
+        runs,
+        state,
+    };
+    text.ticked(plan.cores, ticked)
+}
+
+// The totals' line more.
+fn with_totals(text: Text, state: State) -> Text
+    ensures { λ r. ⌜ r ≡ withTotals text state ⌝ }
+{
+    text.totals(state.late, state.preemptions)
+}
+
+// So many ticks from a state, which is the record that is kept here and stepped where it stands, and the totals.
+fn run_from(mut text: Text, plan: Plan, mut state: State, ticks: usize) -> Text
+    ensures { λ r. ⌜ r ≡ ranFrom text plan state ticks ⌝ }
+{
+    let mut n: usize = 0;
+    while n < ticks {
+        let finished = none_finished(text, plan, state);
+        let released = all_released(text, plan, state);
+        let ran = board::step(&mut state, plan, finished, released);
+        text = with_line(text, plan, ran, state);
+        n += 1;
+    }
+    with_totals(text, state)
 }
 
 // A refusal's line.

@@ -60,7 +60,7 @@ fn one_tick(plan: Plan, state: State, place: usize) -> Moment {
         Answer::Accepted => {
             let finished = asked.finished;
             let released = asked.released;
-            let ticked = board::keep(state, plan, finished, released);
+            let ticked = dispatch::tick(plan, state, finished, released);
             console::print(lines::ticked(plan.cores, ticked));
             let next = ticked.state;
             Moment {

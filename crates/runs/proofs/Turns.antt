@@ -1,4 +1,4 @@
--- Laws of the loops over tasks and ticks: one more of each.
+-- Laws of the loops over tasks and ticks.
 use mathlib.Core.Path.{_≡_, refl, ap}
 use mathlib.Core.Bool.{Bool, true, false, cond}
 use Prim.Native.Nat.{ℕ, zero, suc, _+_, _≤_}
@@ -10,7 +10,7 @@ use Rattle.dispatch.specs.Jobs.{freshState}
 use Rattle.dispatch.specs.declared.State.{State}
 use Rattle.dispatch.specs.declared.Tasks.{Tasks}
 use Rattle.board.specs.Kept.{keptFor}
-use Rattle.runs.specs.Allowed.{allowed, withTask, allowedBelow, fullTick, stateAfter}
+use Rattle.runs.specs.Allowed.{allowed, withTask, allowedBelow}
 use Rattle.runs.specs.Watched.{watchTick, watched}
 use Rattle.runs.specs.Watching.{watchedFrom}
 
@@ -27,11 +27,6 @@ allowed-few p s (suc k) = omega (arith, joined-few (allowed p s k) (allowedBelow
 pub allowed-turn : (p : Plan) (s : State) (i : ℕ) (u r : Tasks) (b : Bool) → u ≡ allowedBelow p s i → b ≡ allowed p s i → r ≡ cond b (withTask u i) u → r ≡ allowedBelow p s (i + 1)
 unfolding allowedBelow
 allowed-turn p s i u r b e h q = rw (add-one, ← e, ← h) q
-
--- one more tick
-pub after-turn : (p : Plan) (n : ℕ) (s : State) → s ≡ stateAfter p n → fullTick p s .state ≡ stateAfter p (n + 1)
-unfolding stateAfter
-after-turn p n s e = rw (add-one, e)
 
 -- a run from a fresh state, seen as a loop that keeps one record
 pub watched-kept : (p : Plan) (n : ℕ) → watchedFrom (record { longest = replicate 64 0 }) p freshState n ≡ watched p n

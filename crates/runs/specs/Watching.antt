@@ -12,10 +12,11 @@ use Rattle.runs.specs.Watched.{seen}
 use Rattle.runs.specs.declared.Seen.{Seen}
 use Rattle.runs.specs.declared.Watched.{Watched}
 
-abbrev pub noneFinished : Seen → Plan → State → Tasks
+-- whatever was seen so far: none is finished, and every task is released that may be
+abbrev pub noneFinished : {X : Type 0} → X → Plan → State → Tasks
 noneFinished x p s = noTasks
 
-abbrev pub allReleased : Seen → Plan → State → Tasks
+abbrev pub allReleased : {X : Type 0} → X → Plan → State → Tasks
 allReleased x p s = allowedSet p s
 
 abbrev pub saw : Seen → Plan → Ran → State → Seen

@@ -104,11 +104,11 @@ pub fn all_allowed(plan: Plan, state: State) -> Tasks
     set
 }
 
-// A tick in which every task is released that may be, and none is finished: the record is stepped where it stands.
+// A tick in which every task is released that may be, and none is finished.
 pub fn full_tick(plan: Plan, state: State) -> Ticked
     ensures { λ r. ⌜ r ≡ fullTick plan state ⌝ }
 {
-    board::keep(state, plan, no_tasks(), all_allowed(plan, state))
+    dispatch::tick(plan, state, no_tasks(), all_allowed(plan, state))
 }
 
 // Is it this task that runs?

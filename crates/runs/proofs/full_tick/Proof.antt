@@ -3,7 +3,7 @@ use Rattle.runs.proofs.full_tick.Statement.{statement}
 use Rattle.runs.proofs.full_tick.Tie as tie
 use Rattle.runs.proofs.full_tick.Reads as reads
 use Rattle.runs.proofs.full_tick.Lts as lts
-use Rattle.board.proofs.keep.Reads as keep-reads
+use Rattle.dispatch.proofs.tick.Reads as tick-reads
 use Rattle.runs.proofs.all_allowed.Reads as all-allowed-reads
 use Rattle.runs.proofs.no_tasks.Reads as no-tasks-reads
 
@@ -16,12 +16,12 @@ all-allowed-requires : tie.Need-all-allowed-requires
 all-allowed-requires c κs = search needs
 
 -- src/lib.rt:106:5
-keep-requires : tie.Need-keep-requires
-keep-requires c κs = search needs
+tick-requires : tie.Need-tick-requires
+tick-requires c κs = search needs
 
 -- src/lib.rt:103:1
 returns : tie.Need-returns
-returns c = simp (c .keep .ensures, c .before .all-allowed .ensures, c .before .before .no-tasks .ensures)
+returns c = simp (c .tick .ensures, c .before .all-allowed .ensures, c .before .before .no-tasks .ensures)
 
 pub full-tick-spec : {M : Type 1} → statement M
-full-tick-spec = tie.close (tie.spec no-tasks-requires all-allowed-requires keep-requires returns)
+full-tick-spec = tie.close (tie.spec no-tasks-requires all-allowed-requires tick-requires returns)

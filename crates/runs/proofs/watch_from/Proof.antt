@@ -1,8 +1,6 @@
 -- `runs::watch_from` meets its contract: the loop that keeps one record, in which every task is released that may be.
 -- Assumes nothing.
 use mathlib.Core.Path.{refl}
-use base.Logic.{emp, id⊢}
-use contract.Monad.{factI}
 use contract.Running.{givenOf, tables, tablesOf}
 use denote.Triple.Spec.{tripleOf}
 use denote.Triple.Table.{entered, cited}
@@ -49,11 +47,7 @@ watch-from-spec 𝓤 H 𝓜 𝓖 𝓡 =
     entered 𝓤 H (tripleOf 𝓤 H (𝓖 .A) watch-from.signature (watch-from.spec 𝓤 H (𝓖 .A) (𝓜 .mem) (𝓡 .run)))
     (tables 𝓤 H 𝓜 𝓡 code.env .C) (tables 𝓤 H 𝓜 𝓡 code.env .Λ) #runs·watch-from code.function (code.unfolded 𝓤 H 𝓜 𝓡)
     (keeps-meet 𝓤 H (𝓖 .A) (𝓜 .mem) (𝓡 .run) (givenOf 𝓤 H 𝓜 𝓖) seens watcheds noneFinished allReleased saw watchedAt #runs·none-finished #runs·all-released #runs·see #runs·watched-at
-    (watch-from.clauses 𝓤 H (𝓖 .A) (𝓜 .mem) (𝓡 .run)) (none-finished.clauses 𝓤 H (𝓖 .A) (𝓜 .mem) (𝓡 .run)) (all-released.clauses 𝓤 H (𝓖 .A) (𝓜 .mem) (𝓡 .run))
-    (see.clauses 𝓤 H (𝓖 .A) (𝓜 .mem) (𝓡 .run)) (watched-at.clauses 𝓤 H (𝓖 .A) (𝓜 .mem) (𝓡 .run))
-    (record { ghost = λ a. tt; free = λ a. id⊢ 𝓤 (emp 𝓤); says = λ a r ws. id⊢ 𝓤 _ }) (record { ghost = λ a. tt; free = λ a. id⊢ 𝓤 (emp 𝓤); says = λ a r ws. id⊢ 𝓤 _ })
-    (record { ghost = λ a. tt; free = λ a. id⊢ 𝓤 (emp 𝓤); says = λ a r ws. id⊢ 𝓤 _ }) (record { ghost = λ a. tt; free = λ a. id⊢ 𝓤 (emp 𝓤); says = λ a r ws. id⊢ 𝓤 _ })
-    (λ x p s n g. factI 𝓤 _ (emp 𝓤) refl) (tablesOf 𝓤 H 𝓜 (tables 𝓤 H 𝓜 𝓡 code.env))
+    (tablesOf 𝓤 H 𝓜 (tables 𝓤 H 𝓜 𝓡 code.env))
     (cited 𝓤 H (Step 𝓤 H (𝓖 .A) (𝓜 .mem) (𝓡 .run)) 𝓜 𝓡 code.env #board·step step-def.routine code.calls-board·step (step-thm.met 𝓤 H 𝓜 𝓖 𝓡))
     (cited 𝓤 H (tripleOf 𝓤 H (𝓖 .A) none-finished.signature (none-finished.spec 𝓤 H (𝓖 .A) (𝓜 .mem) (𝓡 .run))) 𝓜 𝓡 code.env #runs·none-finished none-finished-def.routine code.calls-runs·none-finished (none-finished-thm.met 𝓤 H 𝓜 𝓖 𝓡))
     (cited 𝓤 H (tripleOf 𝓤 H (𝓖 .A) all-released.signature (all-released.spec 𝓤 H (𝓖 .A) (𝓜 .mem) (𝓡 .run))) 𝓜 𝓡 code.env #runs·all-released all-released-def.routine code.calls-runs·all-released (all-released-thm.met 𝓤 H 𝓜 𝓖 𝓡))
