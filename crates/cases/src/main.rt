@@ -5,6 +5,7 @@ use dispatch::State;
 use dispatch::Tasks;
 use force::InForce;
 use libc::STDOUT_FILENO;
+use lines::Text;
 use plans::Bounding;
 use plans::Kind;
 use plans::Piece;
@@ -207,7 +208,8 @@ fn only(task: u8) -> Tasks {
 
 // One tick from a state.
 fn tick(plan: Plan, state: State, finished: Tasks, released: Tasks) {
-    console::print(lines::ticked(plan.cores, dispatch::tick(plan, state, finished, released)));
+    let ticked = dispatch::tick(plan, state, finished, released);
+    console::print(Text::empty().ticked(plan.cores, ticked));
 }
 
 // What a tick is refused with.

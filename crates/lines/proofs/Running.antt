@@ -6,7 +6,7 @@ use Rattle.plans.specs.declared.Plan.{Plan}
 use Rattle.dispatch.specs.Jobs.{freshState}
 use Rattle.dispatch.specs.declared.State.{State}
 use Rattle.board.specs.Kept.{keptFor}
-use Rattle.files.specs.Fields.{row}
+use Rattle.writing.specs.Fields.{row}
 use Rattle.runs.specs.Allowed.{fullTick, stateAfter}
 use Rattle.runs.specs.Watching.{noneFinished, allReleased}
 use Rattle.lines.specs.Lines.{tickedText, totalsText, runText}

@@ -113,7 +113,8 @@ fn told_of(refusal: Refusal) -> Said
 }
 
 impl Text {
-    fn empty() -> Text
+    // A text with nothing in it.
+    pub fn empty() -> Text
         ensures { λ r. ⌜ r ≡ noText ⌝ }
     {
         Text {
@@ -258,7 +259,7 @@ impl Text {
     }
 
     // A tick's line: what runs, or its refusal.
-    fn ticked(self, cores: usize, ticked: Ticked) -> Text
+    pub fn ticked(self, cores: usize, ticked: Ticked) -> Text
         ensures { λ r. ⌜ r ≡ puts self (tickedText cores ticked) ⌝ }
     {
         let answer = ticked.answer;
@@ -366,13 +367,6 @@ pub fn totals(state: State) -> Text
     ensures { λ r. ⌜ r ≡ textOf (totalsText state) ⌝ }
 {
     Text::empty().totals(state.late, state.preemptions)
-}
-
-// A tick's line: the task on each core, or its refusal.
-pub fn ticked(cores: usize, ticked: Ticked) -> Text
-    ensures { λ r. ⌜ r ≡ textOf (tickedText cores ticked) ⌝ }
-{
-    Text::empty().ticked(cores, ticked)
 }
 
 // The listing of the planner's answer.

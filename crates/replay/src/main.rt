@@ -1,98 +1,70 @@
 // Replays what a unit did: standard input is the length of a plan file in two bytes, high first, that plan file, and then ticks to the end.
 ghost use Prim.Native.Nat.{_≤_, _<_};
 ghost use lib.ListN.{length};
-ghost use Rattle.io.specs.Counts.{Counts};
-use dispatch::State;
 use libc::STDIN_FILENO;
 use plans::Plan;
+use replays::Player;
 use tasks::Answer;
 use tasks::Place;
 use tasks::Refusal;
 
-// The state after a tick, the place of the next one, and whether there may be one.
-struct Moment {
-    state: State,
-    place: usize,
+// A player after one more part of the input, and whether the input may go on.
+struct Fed {
+    player: Player,
     more: bool,
 }
 
-// The place `n` bytes further on, as far as a number tells.
-fn further(place: usize, n: usize) -> usize {
-    if n <= usize::MAX - place {
-        place + n
-    } else {
-        usize::MAX
-    }
-}
-
-// Reads the bytes of one request, as many as there are, and says how many.
-fn request(bytes: &mut [u8]) -> usize
-    requires { ⌜ 130 ≤ length (now bytes) ⌝ }
-    ensures { λ r. ⌜ Counts r (now (bytes .exit)) ⌝ }
+// Reads one part of the input into a buffer, and says how many bytes it has.
+fn read_some(bytes: &mut [u8]) -> usize
+    ensures { λ r. ⌜ r ≤ length (now (bytes .exit)) ⌝ }
 {
-    let mut n = 0;
-    let mut size = 1;
-    while n < size {
-        let got = io::read_full(STDIN_FILENO, &mut bytes[n..size]);
-        if got == 0 {
-            return n;
-        }
-        n += got;
-        size = runs::request_size(&bytes[..n]);
-    }
-    n
+    let got = libc::read(STDIN_FILENO, bytes);
+    io::count(got, bytes)
 }
 
-// One tick of the input.
-fn one_tick(plan: Plan, state: State, place: usize) -> Moment {
-    let mut bytes = [0u8; 130];
-    let n = request(&mut bytes);
-    if n == 0 {
-        return Moment {
-            state,
-            place,
+// Reads one part of the input, as far as the player's bytes have room.
+fn feed_some(player: Player) -> Fed {
+    let state = player.state;
+    let mut bytes = player.bytes;
+    let text = player.text;
+    let held = player.count;
+    if 160 <= held {
+        return Fed {
+            player,
             more: false,
         };
     }
-    let asked = runs::read_request(&bytes[..n], Place(place));
-    let answer = asked.answer;
-    match answer {
-        Answer::Accepted => {
-            let finished = asked.finished;
-            let released = asked.released;
-            let ticked = dispatch::tick(plan, state, finished, released);
-            console::print(lines::ticked(plan.cores, ticked));
-            let next = ticked.state;
-            Moment {
-                state: next,
-                place: further(place, n),
-                more: true,
-            }
-        }
-        Answer::Refused(refusal) => {
-            console::print(lines::refused(refusal));
-            Moment {
-                state,
-                place,
-                more: false,
-            }
-        }
+    let n = read_some(&mut bytes[held..]);
+    Fed {
+        player: Player {
+            state,
+            bytes,
+            count: held + n,
+            place: player.place,
+            text,
+        },
+        more: n > 0,
     }
 }
 
 // All ticks of the input, from its byte `start` on, and the totals.
+// A proved loop has to end, and nothing says that an input does: the loop counts its turns down, from a number that no run uses up.
 fn replay(plan: Plan, start: usize) {
-    let mut now = Moment {
-        state: dispatch::fresh(),
-        place: start,
-        more: true,
-    };
+    let mut player = replays::start(start);
+    let mut more = true;
     let mut turns = u64::MAX;
-    while turns > 0 && now.more {
-        now = one_tick(plan, now.state, now.place);
+    while turns > 0 && more {
+        let fed = feed_some(player);
+        player = replays::play(fed.player, plan);
+        console::print(player.text);
+        more = fed.more;
         turns -= 1;
     }
-    console::print(lines::totals(now.state));
+    let answer = replays::last(player);
+    if let Answer::Refused(refusal) = answer {
+        console::print(lines::refused(refusal));
+    }
+    console::print(lines::totals(player.state));
 }
 
 fn wide(x: u8) -> usize

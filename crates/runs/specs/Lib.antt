@@ -1,4 +1,3 @@
 pub mod Allowed
 pub mod Watched
 pub mod Watching
-pub mod Requests

@@ -1,12 +1,10 @@
-// Runs: ticks in which every task is released as soon as allowed, what is seen in them, and a tick's request as bytes.
+// Runs: ticks in which every task is released as soon as allowed, and what is seen in them.
 ghost use mathlib.Core.Path.{_≡_};
 ghost use mathlib.Core.Bool.{true, false, cond};
-ghost use Prim.Native.Nat.{_+_, _≤_, _<_, min, max};
+ghost use Prim.Native.Nat.{_<_, min, max};
 ghost use lib.Dec.{eqb};
-ghost use lib.ListN.{length};
 ghost use Rattle.dispatch.specs.Jobs.{byPhase, names};
 ghost use Rattle.runs.specs.Allowed.{noTasks, withTask, allowedSet, fullTick};
-ghost use Rattle.runs.specs.Requests.{tasksAt, requestSize, refusedRequest, requestRead};
 ghost use Rattle.runs.specs.Watched.{ranIn, watched};
 ghost use Rattle.runs.specs.Watching.{saw, watchedAt, watchedFrom};
 use board::Ran;
@@ -18,9 +16,6 @@ use dispatch::State;
 use dispatch::Tasks;
 use dispatch::Ticked;
 use plans::Plan;
-use tasks::Answer;
-use tasks::Place;
-use tasks::Refusal;
 use tasks::Task;
 use tasks::TaskNo;
 
@@ -33,13 +28,6 @@ pub struct Watched {
 // The longest response seen of each task so far.
 struct Seen {
     longest: [u32; 64],
-}
-
-// A tick's two sets, or why the bytes hold none.
-pub struct Asked {
-    pub answer: Answer,
-    pub finished: Tasks,
-    pub released: Tasks,
 }
 
 fn smaller(a: usize, b: usize) -> usize
@@ -204,84 +192,4 @@ pub fn watch(plan: Plan, ticks: usize) -> Watched
         longest: [0u32; 64],
     };
     watch_from(seen, plan, dispatch::fresh(), ticks)
-}
-
-// A byte as an index.
-fn wide(x: u8) -> usize
-    ensures { λ r. ⌜ (r ≡ x) × (r < 256) ⌝ }
-{
-    x as usize
-}
-
-// The n tasks whose numbers stand from a place on.
-fn tasks_at(bytes: &[u8], at: usize, n: usize) -> Tasks
-    requires { ⌜ (n ≤ 64) × (at + n ≤ length (now bytes)) ⌝ }
-    ensures { λ r. ⌜ r ≡ tasksAt (now (bytes .entry)) at n ⌝ }
-{
-    let mut members = [TaskNo(0); 64];
-    let mut k = 0;
-    while k < n {
-        members[k] = TaskNo(bytes[at + k]);
-        k += 1;
-    }
-    Tasks { members, count: n }
-}
-
-// How many bytes a request takes, as far as those at hand tell.
-pub fn request_size(bytes: &[u8]) -> usize
-    ensures { λ r. ⌜ (r ≡ requestSize (now (bytes .entry))) × (r ≤ 130) ⌝ }
-{
-    if bytes.len() <= 0 {
-        return 1;
-    }
-    let a = wide(bytes[0]);
-    if 64 < a {
-        return 1;
-    }
-    if bytes.len() <= 1 + a {
-        return 2 + a;
-    }
-    let b = wide(bytes[1 + a]);
-    if 64 < b {
-        return 2 + a;
-    }
-    2 + a + b
-}
-
-fn refused(refusal: Refusal) -> Asked
-    ensures { λ r. ⌜ r ≡ refusedRequest refusal ⌝ }
-{
-    Asked {
-        answer: Answer::Refused(refusal),
-        finished: no_tasks(),
-        released: no_tasks(),
-    }
-}
-
-// Reads a tick's request: any bytes at all, the first of which stands at `start` of the input.
-pub fn read_request(bytes: &[u8], start: Place) -> Asked
-    ensures { λ r. ⌜ r ≡ requestRead (now (bytes .entry)) start ⌝ }
-{
-    if bytes.len() <= 0 {
-        return refused(Refusal::CutShort(start));
-    }
-    let a = wide(bytes[0]);
-    if 64 < a {
-        return refused(Refusal::WrongLength(start));
-    }
-    if bytes.len() <= 1 + a {
-        return refused(Refusal::CutShort(start));
-    }
-    let b = wide(bytes[1 + a]);
-    if 64 < b {
-        return refused(Refusal::WrongLength(start));
-    }
-    if bytes.len() < 2 + a + b {
-        return refused(Refusal::CutShort(start));
-    }
-    Asked {
-        answer: Answer::Accepted,
-        finished: tasks_at(bytes, 1, a),
-        released: tasks_at(bytes, 2 + a, b),
-    }
 }

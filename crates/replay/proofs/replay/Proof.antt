@@ -1,53 +1,82 @@
 use borrow.Author.Needs.{needs}
-use native.Mathlib.Omega.{arith}
 use Rattle.replay.proofs.replay.Statement.{statement}
 use Rattle.replay.proofs.replay.Tie as tie
 use Rattle.replay.proofs.replay.Reads as reads
 use Rattle.replay.proofs.replay.Lts as lts
 use Rattle.console.proofs.print.Reads as print-reads
-use Rattle.dispatch.proofs.fresh.Reads as fresh-reads
+use Rattle.lines.proofs.refused.Reads as refused-reads
 use Rattle.lines.proofs.totals.Reads as totals-reads
-use Rattle.replay.proofs.one_tick.Reads as one-tick-reads
+use Rattle.replay.proofs.feed_some.Reads as feed-some-reads
+use Rattle.replays.proofs.last.Reads as last-reads
+use Rattle.replays.proofs.play.Reads as play-reads
+use Rattle.replays.proofs.start.Reads as start-reads
 
 abbrev Inv-loop : tie.InvT-loop
-Inv-loop plan start now₀ turns₀ now turns = Unit {0}
+Inv-loop plan start player₀ more₀ turns₀ player more turns = Unit {0}
 
 abbrev μ-loop : tie.MeasureT-loop
-μ-loop plan start now₀ turns₀ now turns = turns
+μ-loop plan start player₀ more₀ turns₀ player more turns = turns
 
--- src/main.rt:86:16
-fresh-requires : tie.Need-fresh-requires Inv-loop μ-loop
-fresh-requires c κs = search needs
+-- src/main.rt:44:9
+start-requires : tie.Need-start-requires Inv-loop μ-loop
+start-requires c κs = search needs
 
--- src/main.rt:91:5
+-- src/main.rt:47:5
 loop-holds : tie.Need-loop-holds Inv-loop μ-loop
 loop-holds c = search needs
 
--- src/main.rt:92:9
-one-tick-requires : tie.Need-one-tick-requires Inv-loop μ-loop
-one-tick-requires c κs = search needs
+-- src/main.rt:48:13
+feed-some-requires : tie.Need-feed-some-requires Inv-loop μ-loop
+feed-some-requires c κs = search needs
 
--- src/main.rt:93:9
-sub-turns : tie.Need-sub-turns Inv-loop μ-loop
-sub-turns c = search needs
+-- src/main.rt:49:9
+play-requires : tie.Need-play-requires Inv-loop μ-loop
+play-requires c κs = search needs
 
--- src/main.rt:91:5
-loop-less : tie.Need-loop-less Inv-loop μ-loop
-loop-less c = search needs
-
--- src/main.rt:91:5
-loop-again : tie.Need-loop-again Inv-loop μ-loop
-loop-again c = search needs
-
--- src/main.rt:95:20
-totals-requires : tie.Need-totals-requires Inv-loop μ-loop
-totals-requires c κs = search needs
-
--- src/main.rt:95:5
+-- src/main.rt:50:9
 print-requires : tie.Need-print-requires Inv-loop μ-loop
 print-requires c κs = search needs
 
--- src/main.rt:84:1
+-- src/main.rt:52:9
+sub-turns : tie.Need-sub-turns Inv-loop μ-loop
+sub-turns c = search needs
+
+-- src/main.rt:47:5
+loop-less : tie.Need-loop-less Inv-loop μ-loop
+loop-less c = search needs
+
+-- src/main.rt:47:5
+loop-again : tie.Need-loop-again Inv-loop μ-loop
+loop-again c = search needs
+
+-- src/main.rt:54:9
+last-requires : tie.Need-last-requires Inv-loop μ-loop
+last-requires c κs = search needs
+
+-- src/main.rt:55:28
+enum-known-answer : tie.Need-enum-known-answer Inv-loop μ-loop
+enum-known-answer c = search needs
+
+-- src/main.rt:56:24
+refused-requires : tie.Need-refused-requires Inv-loop μ-loop
+refused-requires c κs = search needs
+
+-- src/main.rt:56:9
+print-requires-2 : tie.Need-print-requires-2 Inv-loop μ-loop
+print-requires-2 c κs = search needs
+
+enum-told : tie.Need-enum-told Inv-loop μ-loop
+enum-told c = search needs
+
+-- src/main.rt:58:20
+totals-requires : tie.Need-totals-requires Inv-loop μ-loop
+totals-requires c κs = search needs
+
+-- src/main.rt:58:5
+print-requires-3 : tie.Need-print-requires-3 Inv-loop μ-loop
+print-requires-3 c κs = search needs
+
+-- src/main.rt:43:1
 returns : tie.Need-returns Inv-loop μ-loop
 returns c = search needs
 
@@ -57,12 +86,19 @@ replay-spec =
     (tie.spec
     Inv-loop
     μ-loop
-    fresh-requires
+    start-requires
     loop-holds
-    one-tick-requires
+    feed-some-requires
+    play-requires
+    print-requires
     sub-turns
     loop-less
     loop-again
+    last-requires
+    enum-known-answer
+    refused-requires
+    print-requires-2
+    enum-told
     totals-requires
-    print-requires
+    print-requires-3
     returns)

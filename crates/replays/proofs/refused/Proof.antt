@@ -1,9 +1,9 @@
 use borrow.Author.Needs.{needs}
-use Rattle.runs.proofs.refused.Statement.{statement}
-use Rattle.runs.proofs.refused.Tie as tie
-use Rattle.runs.proofs.refused.Reads as reads
-use Rattle.runs.proofs.refused.Lts as lts
-use Rattle.runs.proofs.no_tasks.Reads as no-tasks-reads
+use Rattle.replays.proofs.refused.Statement.{statement}
+use Rattle.replays.proofs.refused.Tie as tie
+use Rattle.replays.proofs.refused.Reads as reads
+use Rattle.replays.proofs.refused.Lts as lts
+use Rattle.replays.proofs.no_tasks.Reads as no-tasks-reads
 
 -- src/lib.rt:209:19
 no-tasks-requires : tie.Need-no-tasks-requires

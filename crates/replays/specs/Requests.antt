@@ -12,8 +12,8 @@ use Rattle.tasks.specs.declared.Place.{Place}
 use Rattle.tasks.specs.declared.Refusal.{Refusal}
 use Rattle.tasks.specs.declared.Refusal.the-variants.{CutShort, WrongLength}
 use Rattle.dispatch.specs.declared.Tasks.{Tasks}
 use Rattle.runs.specs.Allowed.{noTasks}
-use Rattle.runs.specs.declared.Asked.{Asked}
+use Rattle.replays.specs.declared.Asked.{Asked}
 
 -- how many are finished, and how many released
 abbrev pub finishes : List ℕ → ℕ

@@ -1,12 +1,12 @@
 use native.Mathlib.Omega.{arith}
 use borrow.Author.Tests.{lt-ltb, le-ltb, le-leb, lt-leb}
-use Rattle.runs.specs.Requests.{requestSize}
+use Rattle.replays.specs.Requests.{requestSize}
 use borrow.Author.Needs.{needs}
-use Rattle.runs.proofs.request_size.Statement.{statement}
-use Rattle.runs.proofs.request_size.Tie as tie
-use Rattle.runs.proofs.request_size.Reads as reads
-use Rattle.runs.proofs.request_size.Lts as lts
-use Rattle.runs.proofs.wide.Reads as wide-reads
+use Rattle.replays.proofs.request_size.Statement.{statement}
+use Rattle.replays.proofs.request_size.Tie as tie
+use Rattle.replays.proofs.request_size.Reads as reads
+use Rattle.replays.proofs.request_size.Lts as lts
+use Rattle.replays.proofs.wide.Reads as wide-reads
 
 -- src/lib.rt:188:9
 returns : tie.Need-returns

@@ -1,13 +1,13 @@
-use Rattle.runs.specs.Requests.{requestRead}
+use Rattle.replays.specs.Requests.{requestRead}
 use borrow.Author.Tests.{lt-ltb, le-ltb, le-leb, lt-leb, eq-eqb, ne-eqb}
 use borrow.Author.Needs.{needs}
-use Rattle.runs.proofs.read_request.Statement.{statement}
-use Rattle.runs.proofs.read_request.Tie as tie
-use Rattle.runs.proofs.read_request.Reads as reads
-use Rattle.runs.proofs.read_request.Lts as lts
-use Rattle.runs.proofs.refused.Reads as refused-reads
-use Rattle.runs.proofs.tasks_at.Reads as tasks-at-reads
-use Rattle.runs.proofs.wide.Reads as wide-reads
+use Rattle.replays.proofs.read_request.Statement.{statement}
+use Rattle.replays.proofs.read_request.Tie as tie
+use Rattle.replays.proofs.read_request.Reads as reads
+use Rattle.replays.proofs.read_request.Lts as lts
+use Rattle.replays.proofs.refused.Reads as refused-reads
+use Rattle.replays.proofs.tasks_at.Reads as tasks-at-reads
+use Rattle.replays.proofs.wide.Reads as wide-reads
 
 -- src/lib.rt:230:9
 refused-requires : tie.Need-refused-requires

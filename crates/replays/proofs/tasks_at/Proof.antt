@@ -6,12 +6,12 @@ use Rattle.tasks.specs.Below.{padded}
 use Rattle.tasks.specs.Tables.{taskNo}
 use Rattle.tasks.proofs.Padded.{padded-turn}
 use Rattle.tasks.proofs.Tabulate.{padded-start}
-use Rattle.runs.specs.Requests.{tasksAt}
+use Rattle.replays.specs.Requests.{tasksAt}
 use borrow.Author.Needs.{needs}
-use Rattle.runs.proofs.tasks_at.Statement.{statement}
-use Rattle.runs.proofs.tasks_at.Tie as tie
-use Rattle.runs.proofs.tasks_at.Reads as reads
-use Rattle.runs.proofs.tasks_at.Lts as lts
+use Rattle.replays.proofs.tasks_at.Statement.{statement}
+use Rattle.replays.proofs.tasks_at.Tie as tie
+use Rattle.replays.proofs.tasks_at.Reads as reads
+use Rattle.replays.proofs.tasks_at.Lts as lts
 
 abbrev Inv-loop : tie.InvT-loop
 Inv-loop bytes at n members₀ k₀ members k = (k ≤ n) × (n ≤ 64) × (at + n ≤ length bytes) × (members ≡ padded 64 k (taskNo 0) (λ j. taskNo (getD bytes (at + j) 0)))

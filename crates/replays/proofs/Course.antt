@@ -1,0 +1,207 @@
+-- Playing the requests at hand: the code's turns are the definition's, and a replay in parts is the replay of the whole.
+use mathlib.Core.Path.{_≡_, refl, sym, ap, _∙_}
+use Prim.Native.Nat.{ℕ, zero, suc, _+_, _-_, _≤_, _<_, min}
+use native.Mathlib.Omega.{arith}
+use borrow.Author.Tests.{le-leb, lt-leb}
+use native.Mathlib.Decide.{decLt}
+use native.Mathlib.Nat.{zero-add}
+use native.Mathlib.Numerals.{add-one}
+use mathlib.Core.List.{List, []}
+use lib.ListN.{length, getD, take, drop, length-take, length-drop, drop-of-length-le}
+use lib.Seq.{drop-drop, ext-getD, getD-take, getD-drop}
+use Rattle.tasks.specs.Below.{padded}
+use Rattle.tasks.proofs.Padded.{padded-same}
+use Rattle.tasks.specs.declared.Answer.{Answer}
+use Rattle.tasks.specs.declared.Answer.the-variants.{Accepted, Refused}
+use Rattle.tasks.specs.declared.Refusal.{Refusal}
+use Rattle.plans.specs.declared.Plan.{Plan}
+use Rattle.lines.specs.Lines.{tickedText}
+use Rattle.lines.specs.Text.{noText, puts, textOf}
+use Rattle.lines.specs.declared.Text.{Text}
+use Rattle.lines.proofs.Putting.{puts-parts}
+use Rattle.dispatch.specs.Tick.{tick}
+use Rattle.dispatch.specs.declared.State.{State}
+use Rattle.dispatch.specs.declared.Ticked.{Ticked}
+use Rattle.replays.specs.Requests.{finishes, releases, requestSize, requestRead}
+use Rattle.replays.specs.Replay.{placeAt, tickAsked, Standing, next, played, oneMore, wholes, atHand, standing, playedOn, lastAnswer}
+use Rattle.replays.specs.Turns.{endOf, beginOf, handed, askedOf, shownOf, shotOf, turnsOf}
+use Rattle.replays.specs.declared.Asked.{Asked}
+use Rattle.replays.specs.declared.Player.{Player}
+use Rattle.replays.specs.declared.Reel.{Reel}
+use Rattle.replays.specs.declared.Shot.{Shot}
+use Rattle.replays.proofs.Good.{Good, accepted-good, good-size}
+
+-- ---- a part of the bytes
+
+pub part-is : (f t : ℕ) (l : List ℕ) → f ≤ t → take (t - f) (drop f l) ≡ drop f (take t l)
+part-is f t l h = ext-getD 0 _ _ (omega (arith, length-take (t - f) (drop f l), length-drop f l, length-drop f (take t l), length-take t l)) (λ i b. at i b)
+  where
+    at : (i : ℕ) → i < length (take (t - f) (drop f l)) → getD (take (t - f) (drop f l)) i 0 ≡ getD (drop f (take t l)) i 0
+    at i b =
+        let near : i < t - f = omega (arith, length-take (t - f) (drop f l)) in
+        let far : f + i < t = omega arith in
+        getD-take (t - f) (drop f l) i 0 near ∙ getD-drop f l i 0 ∙ sym (getD-take t l (f + i) 0 far) ∙ sym (getD-drop f (take t l) i 0)
+
+-- the bytes from the next request on, as the code lends them
+pub handed-is : (x : Reel) (e b : ℕ) → e ≡ endOf x → b ≡ min (x .at) e → take (e - b) (drop b (x .bytes)) ≡ handed x
+handed-is x e b he hb = part-is b e (x .bytes) (omega arith) ∙ rw (hb, he)
+
+-- ---- how many requests are whole
+
+pub wholes-none : (k : ℕ) (bs : List ℕ) (x : Refusal) → requestRead bs (placeAt 0) .answer ≡ Refused x → wholes (suc k) bs ≡ 0
+unfolding wholes
+wholes-none k bs x e = rw e
+
+pub wholes-more : (k : ℕ) (bs : List ℕ) → requestRead bs (placeAt 0) .answer ≡ Accepted → wholes (suc k) bs ≡ suc (wholes k (drop (requestSize bs) bs))
+unfolding wholes
+wholes-more k bs e = rw e
+
+pub wholes-zero : (bs : List ℕ) → wholes 0 bs ≡ 0
+unfolding wholes
+wholes-zero bs = refl
+
+-- n requests have been counted, up to byte `at`
+pub record Counted (bs : List ℕ) (at n : ℕ) : Type 0 where
+  pub within : at ≤ length bs
+  pub most : n ≤ 80
+  pub still : n + wholes (80 - n) (drop at bs) ≡ wholes 80 bs
+
+pub counted-start : (bs : List ℕ) → Counted bs 0 0
+counted-start bs = record { within = omega arith; most = omega arith; still = zero-add _ }
+
+pub counted-end : (bs : List ℕ) (at n : ℕ) → Counted bs at n → 80 ≤ n → n ≡ wholes 80 bs
+counted-end bs at n c h =
+    let e : 80 - n ≡ 0 = omega arith in
+    let none : wholes (80 - n) (drop at bs) ≡ 0 = ap (λ (k : ℕ). wholes k (drop at bs)) e ∙ wholes-zero (drop at bs) in
+    omega (arith, c .still, none)
+
+pub counted-stop : (bs : List ℕ) (at n : ℕ) (x : Refusal) → Counted bs at n → n < 80 → requestRead (drop at bs) (placeAt 0) .answer ≡ Refused x → n ≡ wholes 80 bs
+counted-stop bs at n x c h e =
+    let k : 80 - n ≡ suc (79 - n) = omega arith in
+    let none : wholes (80 - n) (drop at bs) ≡ 0 = ap (λ (k : ℕ). wholes k (drop at bs)) k ∙ wholes-none (79 - n) (drop at bs) x e in
+    omega (arith, c .still, none)
+
+pub counted-turn : (bs : List ℕ) (at n : ℕ) → Counted bs at n → n < 80 → requestRead (drop at bs) (placeAt 0) .answer ≡ Accepted → Counted bs (at + requestSize (drop at bs)) (n + 1)
+counted-turn bs at n c h e =
+    let g : Good (drop at bs) = accepted-good (drop at bs) (placeAt 0) e in
+    let k : 80 - n ≡ suc (79 - n) = omega arith in
+    let j : 80 - (n + 1) ≡ 79 - n = omega arith in
+    let one : wholes (80 - n) (drop at bs) ≡ suc (wholes (79 - n) (drop (requestSize (drop at bs)) (drop at bs))) = ap (λ (k : ℕ). wholes k (drop at bs)) k ∙ wholes-more (79 - n) (drop at bs) e in
+    let next : wholes (80 - (n + 1)) (drop (at + requestSize (drop at bs)) bs) ≡ wholes (79 - n) (drop (requestSize (drop at bs)) (drop at bs)) = ap (λ (k : ℕ). wholes k (drop (at + requestSize (drop at bs)) bs)) j ∙ ap (wholes (79 - n)) (sym (drop-drop (requestSize (drop at bs)) at bs)) in
+    record {
+      within = omega (arith, good-size (drop at bs) g, g .whole, length-drop at bs, c .within);
+      most = omega arith;
+      still = omega (arith, c .still, one, next);
+    }
+
+-- the same for the request that the code reads
+module _ (bytes : List ℕ) (count at n : ℕ) (a : Asked) (c : Counted (take count bytes) at n) (within : at ≤ count) (few : n < 80) (read : a ≡ requestRead (take (count - at) (drop at bytes)) (placeAt 0)) where
+  answered : requestRead (drop at (take count bytes)) (placeAt 0) .answer ≡ a .answer
+  answered = rw (read, part-is at count bytes within)
+
+  pub count-stops : (x : Refusal) → a .answer ≡ Refused x → n ≡ wholes 80 (take count bytes)
+  count-stops x e = counted-stop (take count bytes) at n x c few (answered ∙ e)
+
+  pub count-goes : (k : ℕ) → a .answer ≡ Accepted → k ≡ requestSize (take (count - at) (drop at bytes)) → Counted (take count bytes) (at + k) (n + 1)
+  count-goes k e h = rw (h, part-is at count bytes within) (counted-turn (take count bytes) at n c few (answered ∙ e))
+
+  pub count-within : (k : ℕ) → Counted (take count bytes) (at + k) (n + 1) → at + k ≤ count
+  count-within k d = omega (arith, d .within, length-take count bytes)
+
+-- ---- the code's turns
+
+pub turns-start : (p : Plan) (x : Reel) (s : State) → turnsOf p 0 x s ≡ record { reel = x; state = s }
+unfolding turnsOf
+turns-start p x s = refl
+
+pub turns-more : (p : Plan) (i : ℕ) (x : Reel) (s : State) (y z : Reel) {u : State} {a : Asked} {t : Ticked} → turnsOf p i x s ≡ record { reel = y; state = u } → a ≡ askedOf y → t ≡ tick p u (a .finished) (a .released)
+    → z ≡ shownOf (p .cores) y t → turnsOf p (i + 1) x s ≡ record { reel = z; state = t .state }
+unfolding turnsOf
+turns-more p i x s y z e ea et ez = rw (add-one, e, ← ea, ← et, ← ez)
+
+pub shown-is : (m : ℕ) (x : Reel) (t : Ticked) (e b k : ℕ) (u : Text) → e ≡ endOf x → b ≡ min (x .at) e → k ≡ requestSize (take (e - b) (drop b (x .bytes))) → u ≡ puts (x .text) (tickedText m t)
+    → record { bytes = x .bytes; count = x .count; at = b + k; text = u } ≡ shownOf m x t
+unfolding shownOf
+shown-is m x t e b k u he hb hk hu =
+    let size : k ≡ requestSize (handed x) = hk ∙ ap requestSize (handed-is x e b he hb) in
+    let start : b ≡ beginOf x = hb ∙ ap (min (x .at)) he in
+    rw (size, start, hu)
+
+-- ---- the code's turns are the definition's
+
+-- a shot and a standing over the first c of some bytes
+record Alike (bytes : List ℕ) (c : ℕ) (y : Shot) (z : Standing) : Type 0 where
+  bytes-same : y .reel .bytes ≡ bytes
+  count-same : y .reel .count ≡ c
+  state-same : y .state ≡ z .state
+  left-same : drop (min (y .reel .at) c) (take c bytes) ≡ z .left
+  said-same : y .reel .text ≡ textOf (z .said)
+
+drop-min : (a c : ℕ) (bs : List ℕ) → length bs ≤ c → drop (min a c) bs ≡ drop a bs
+drop-min a c bs h = go (decLt a c)
+  where
+    go : Dec (a < c) → drop (min a c) bs ≡ drop a bs
+    go (yes l) = let e : min a c ≡ a = omega arith in ap (λ (k : ℕ). drop k bs) e
+    go (no l) = let e : min a c ≡ c = omega arith in ap (λ (k : ℕ). drop k bs) e ∙ drop-of-length-le bs {i = c} h ∙ sym (drop-of-length-le bs {i = a} (omega arith))
+
+module _ (p : Plan) (bytes : List ℕ) (c : ℕ) (few : c ≤ 160) where
+  shot-next : (y : Shot) (z : Standing) → Alike bytes c y z → Alike bytes c (shotOf p (y .reel) (tickAsked p (y .state) (askedOf (y .reel)))) (next p z)
+  unfolding next shownOf
+  shot-next y z h =
+      let all : min c 160 ≡ c = omega arith in
+      let hand : handed (y .reel) ≡ z .left = rw (h .bytes-same, h .count-same, all) (h .left-same) in
+      let ticks : tickAsked p (y .state) (askedOf (y .reel)) ≡ tickAsked p (z .state) (requestRead (z .left) (placeAt 0)) = rw (h .state-same, hand) in
+      let size : beginOf (y .reel) + requestSize (handed (y .reel)) ≡ min (y .reel .at) c + requestSize (z .left) = rw (hand, h .count-same, all) in
+      let long : length (take c bytes) ≤ c = omega (arith, length-take c bytes) in
+      record {
+        bytes-same = h .bytes-same;
+        count-same = h .count-same;
+        state-same = rw ticks;
+        left-same = drop-min _ c (take c bytes) long ∙ ap (λ (k : ℕ). drop k (take c bytes)) size ∙ sym (drop-drop (requestSize (z .left)) (min (y .reel .at) c) (take c bytes)) ∙ ap (drop (requestSize (z .left))) (h .left-same);
+        said-same = rw (ticks, h .said-same) (sym (puts-parts noText (z .said) (tickedText (p .cores) (tickAsked p (z .state) (requestRead (z .left) (placeAt 0))))));
+      }
+
+  shot-played : (n : ℕ) (x : Reel) (s : State) (z : Standing) → Alike bytes c (record { reel = x; state = s }) z → Alike bytes c (turnsOf p n x s) (played p n z)
+  unfolding turnsOf played
+  shot-played zero x s z h = h
+  shot-played (suc n) x s z h = shot-next (turnsOf p n x s) (played p n z) (shot-played n x s z h)
+
+nothing-said : noText ≡ textOf []
+unfolding puts
+nothing-said = refl
+
+-- what is left, as the code moves it to the beginning
+standing-is : (w : Player) (c at : ℕ) (y : Shot) (z : Standing) (moved : List ℕ) (place : ℕ) → length (w .bytes) ≡ 160 → c ≡ min (w .count) 160 → Alike (w .bytes) c y z
+    → at ≡ min (y .reel .at) c → moved ≡ padded 160 (c - at) 0 (λ i. getD (w .bytes) (at + i) 0) → place ≡ min (w .place + at) 18446744073709551615
+    → record { state = y .state; bytes = moved; count = c - at; place = place; text = y .reel .text } ≡ standing w z
+standing-is w c at y z moved place full hc h ha hm hp =
+    let long : length (take c (w .bytes)) ≡ c = length-take c (w .bytes) ∙ omega arith in
+    let rest : drop at (take c (w .bytes)) ≡ z .left = ap (λ (k : ℕ). drop k (take c (w .bytes))) ha ∙ h .left-same in
+    let count : length (z .left) ≡ c - at = ap length (sym rest) ∙ length-drop at (take c (w .bytes)) ∙ ap (λ (k : ℕ). k - at) long in
+    let used : length (take c (w .bytes)) - length (z .left) ≡ at = omega (arith, long, count) in
+    let entry : (i : ℕ) → i < c - at → getD (w .bytes) (at + i) 0 ≡ getD (z .left) i 0 = λ i l. sym (ap (λ (bs : List ℕ). getD bs i 0) (sym rest) ∙ getD-drop at (take c (w .bytes)) i 0 ∙ getD-take c (w .bytes) (at + i) 0 (omega arith)) in
+    let each : moved ≡ padded 160 (c - at) 0 (λ i. getD (z .left) i 0) = hm ∙ padded-same 160 0 (c - at) _ _ entry in
+    rw (← hc, used, count, h .state-same, each, hp, h .said-same)
+
+-- what `play` makes of its shot is what the definition says
+pub played-is : (p : Plan) (w : Player) (c n at : ℕ) (u : Text) (y : Shot) (moved : List ℕ) (place : ℕ) → length (w .bytes) ≡ 160 → c ≡ min (w .count) 160 → n ≡ wholes 80 (take c (w .bytes)) → u ≡ noText
+    → y ≡ turnsOf p n (record { bytes = w .bytes; count = c; at = 0; text = u }) (w .state) → at ≡ min (y .reel .at) c → moved ≡ padded 160 (c - at) 0 (λ i. getD (w .bytes) (at + i) 0) → place ≡ min (w .place + at) 18446744073709551615
+    → record { state = y .state; bytes = moved; count = c - at; place = place; text = y .reel .text } ≡ playedOn p w
+unfolding playedOn
+played-is p w c n at u y moved place full hc hn hu hy ha hm hp =
+    let none : min 0 c ≡ 0 = omega arith in
+    let begins : Alike (w .bytes) c (record { reel = record { bytes = w .bytes; count = c; at = 0; text = u }; state = w .state }) (record { state = w .state; left = take c (w .bytes); said = [] }) =
+    record { bytes-same = refl; count-same = refl; state-same = refl; left-same = ap (λ (k : ℕ). drop k (take c (w .bytes))) none; said-same = hu ∙ nothing-said } in
+    standing-is w c at y (played p n (record { state = w .state; left = take c (w .bytes); said = [] })) moved place full hc (rw hy (shot-played p (w .bytes) c (omega arith) n _ (w .state) _ begins)) ha hm hp ∙ rw (hn, hc)
+
+-- ---- the end of the input
+
+pub last-none : (w : Player) (k : ℕ) → k ≡ min (w .count) 160 → k ≡ 0 → Accepted ≡ lastAnswer w
+unfolding lastAnswer
+last-none w k e z = rw (le-leb (length (atHand w)) 0 (omega (arith, length-take (min (w .count) 160) (w .bytes))))
+
+pub last-some : (w : Player) (k : ℕ) (a : Asked) → length (w .bytes) ≡ 160 → k ≡ min (w .count) 160 → (k ≡ 0 → ⊥) → a ≡ requestRead (take k (w .bytes)) (placeAt (w .place)) → a .answer ≡ lastAnswer w
+unfolding lastAnswer
+last-some w k a full e some h =
+    let long : 0 < length (atHand w) = omega (arith, length-take (min (w .count) 160) (w .bytes), some) in
+    rw (lt-leb (length (atHand w)) 0 long, h, e)

@@ -1,0 +1,4 @@
+pub mod Good
+pub mod Course
+pub mod Parts
+pub mod Settled

@@ -1,0 +1,63 @@
+use Rattle.replays.proofs.Course.{shown-is}
+use Rattle.replays.specs.Turns.{shownOf}
+use native.Mathlib.Omega.{arith}
+use mathlib.Core.Path.{_≡_, sym, ap, _∙_}
+use lib.ListN.{length, length-map}
+use borrow.Author.Needs.{needs}
+use Rattle.replays.proofs.show.Statement.{statement}
+use Rattle.replays.proofs.show.Tie as tie
+use Rattle.replays.proofs.show.Reads as reads
+use Rattle.replays.proofs.show.Lts as lts
+use Rattle.lines.proofs.Text.ticked.Reads as ticked-reads
+use Rattle.replays.proofs.request_size.Reads as request-size-reads
+use Rattle.replays.proofs.smaller.Reads as smaller-reads
+
+-- src/lib.rt:180:9
+smaller-requires : tie.Need-smaller-requires
+smaller-requires c κs = search needs
+
+-- src/lib.rt:181:9
+smaller-requires-2 : tie.Need-smaller-requires-2
+smaller-requires-2 c κs = search needs
+
+-- src/lib.rt:182:29
+sub-request-size : tie.Need-sub-request-size
+sub-request-size c = search needs
+
+-- src/lib.rt:182:29
+part-request-size-start : tie.Need-part-request-size-start
+part-request-size-start c = search needs
+
+-- src/lib.rt:182:29
+part-request-size-end : tie.Need-part-request-size-end
+part-request-size-end c = let l : length (c .before .before .before .before .before .args .reel .bytes) ≡ 160 = simp length-map at (c .before .before .before .before .before .good .0 .1 .1 .0 .1 .0 .1) in omega arith
+
+-- src/lib.rt:182:9
+request-size-requires : tie.Need-request-size-requires
+request-size-requires c κs = search needs
+
+-- src/lib.rt:186:13
+add-t11 : tie.Need-add-t11
+add-t11 c = search needs
+
+-- src/lib.rt:187:15
+ticked-requires : tie.Need-ticked-requires
+ticked-requires c κs = search needs
+
+-- src/lib.rt:175:1
+returns : tie.Need-returns
+returns c = shown-is _ _ _ _ _ _ _ (c .before .before .before .before .before .smaller .ensures) (c .before .before .before .before .smaller2 .ensures) (c .before .request-size .ensures .0) (c .ticked .ensures)
+
+pub show-spec : {M : Type 1} → statement M
+show-spec =
+    tie.close
+    (tie.spec
+    smaller-requires
+    smaller-requires-2
+    sub-request-size
+    part-request-size-start
+    part-request-size-end
+    request-size-requires
+    add-t11
+    ticked-requires
+    returns)

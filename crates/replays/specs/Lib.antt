@@ -1,0 +1,3 @@
+pub mod Requests
+pub mod Replay
+pub mod Turns

@@ -1,0 +1,112 @@
+-- A replay: the length of a plan file in two bytes, high first, that plan file, and then ticks to the end of the input.
+use mathlib.Core.Bool.{cond}
+use mathlib.Core.List.{List, [], _++_}
+use Prim.Native.Nat.{ℕ, zero, suc, _+_, _-_, _*_, min}
+use lib.Dec.{ltb, leb}
+use lib.ListN.{length, getD, take, drop, replicate}
+use Rattle.tasks.specs.Below.{padded}
+use Rattle.tasks.specs.declared.Answer.{Answer}
+use Rattle.tasks.specs.declared.Answer.the-variants.{Accepted, Refused}
+use Rattle.tasks.specs.declared.Place.{Place}
+use Rattle.tasks.specs.declared.Refusal.the-variants.{CutShort}
+use Rattle.plans.specs.declared.Plan.{Plan}
+use Rattle.reading.specs.Reading.{planRead}
+use Rattle.reading.specs.declared.ReadPlan.{ReadPlan}
+use Rattle.dispatch.specs.Jobs.{freshState}
+use Rattle.dispatch.specs.Tick.{tick}
+use Rattle.dispatch.specs.declared.State.{State}
+use Rattle.dispatch.specs.declared.Ticked.{Ticked}
+use Rattle.lines.specs.Lines.{answerText, refusalText, tickedText, totalsText}
+use Rattle.lines.specs.Text.{noText, textOf}
+use Rattle.replays.specs.Requests.{requestSize, requestRead}
+use Rattle.replays.specs.declared.Asked.{Asked}
+use Rattle.replays.specs.declared.Player.{Player}
+
+abbrev pub placeAt : ℕ → Place
+placeAt n = record { 0 = n }
+
+-- the tick that the next bytes ask for
+abbrev pub tickAsked : Plan → State → Asked → Ticked
+tickAsked p s a = tick p s (a .finished) (a .released)
+
+-- ---- the whole input
+
+-- after a request that is not whole or not good its refusal and the totals come; otherwise there is more
+abbrev pub closed : Answer → State → List ℕ → List ℕ
+closed (Refused x) s more = refusalText x ++ totalsText s
+closed Accepted s more = more
+
+-- ticks to the end of the input, whose next byte stands at n: each prints its line, and the last line is the totals. k bounds how many there may be
+unfoldable pub ticksText : ℕ → Plan → ℕ → State → List ℕ → List ℕ
+ticksText zero p n s bs = totalsText s
+ticksText (suc k) p n s bs =
+    cond (leb (length bs) 0) (totalsText s)
+    (closed (requestRead bs (placeAt n) .answer) s
+    (tickedText (p .cores) (tickAsked p s (requestRead bs (placeAt n)))
+    ++ ticksText k p (n + requestSize bs) (tickAsked p s (requestRead bs (placeAt n)) .state) (drop (requestSize bs) bs)))
+
+-- how long the plan file is said to be
+abbrev pub told : List ℕ → ℕ
+told bs = getD bs 0 0 * 256 + getD bs 1 0
+
+abbrev pub opened : ReadPlan → List ℕ → List ℕ
+opened r bs = answerText (r .answer) (ticksText (length bs) (r .plan) (2 + told bs) freshState (drop (2 + told bs) bs))
+
+-- what is printed for an input: 1 at 0 if it ends before the plan file is whole, the plan file's refusal, or its ticks from a fresh state
+unfoldable pub replayText : List ℕ → List ℕ
+replayText bs =
+    cond (ltb (length bs) (2 + told bs)) (refusalText (CutShort (placeAt 0)))
+    (opened (planRead (take (told bs) (drop 2 bs))) bs)
+
+-- ---- the part of the input that is at hand
+
+-- where a replay stands: the state, the bytes to come, and what has been printed
+pub record Standing : Type 0 where
+  pub state : State
+  pub left : List ℕ
+  pub said : List ℕ
+
+-- the next request is played
+abbrev pub after : Plan → Standing → Ticked → Standing
+after p z t = record { state = t .state; left = drop (requestSize (z .left)) (z .left); said = z .said ++ tickedText (p .cores) t }
+
+unfoldable pub next : Plan → Standing → Standing
+next p z = after p z (tickAsked p (z .state) (requestRead (z .left) (placeAt 0)))
+
+-- so many requests are played
+unfoldable pub played : Plan → ℕ → Standing → Standing
+played p zero z = z
+played p (suc k) z = next p (played p k z)
+
+-- with how many whole and good requests some bytes begin, of at most k
+abbrev pub oneMore : Answer → ℕ → ℕ
+oneMore (Refused x) n = 0
+oneMore Accepted n = suc n
+
+unfoldable pub wholes : ℕ → List ℕ → ℕ
+wholes zero bs = 0
+wholes (suc k) bs = oneMore (requestRead bs (placeAt 0) .answer) (wholes k (drop (requestSize bs) bs))
+
+-- the bytes at hand of a player
+abbrev pub atHand : Player → List ℕ
+atHand w = take (min (w .count) 160) (w .bytes)
+
+abbrev pub start : ℕ → Player
+start n = record { state = freshState; bytes = replicate 160 0; count = 0; place = n; text = noText }
+
+-- all whole requests at hand are played, and what is left stands at the beginning. Places stop at the largest number
+abbrev pub standing : Player → Standing → Player
+standing w z = record {
+  state = z .state;
+  bytes = padded 160 (length (z .left)) 0 (λ i. getD (z .left) i 0);
+  count = length (z .left);
+  place = min (w .place + (length (atHand w) - length (z .left))) 18446744073709551615;
+  text = textOf (z .said);
+}
+
+unfoldable pub playedOn : Plan → Player → Player
+playedOn p w = standing w (played p (wholes 80 (atHand w)) (record { state = w .state; left = atHand w; said = [] }))
+
+-- at the end of the input: nothing is left, or what is left is no whole and good request
+unfoldable pub lastAnswer : Player → Answer
+lastAnswer w = cond (leb (length (atHand w)) 0) Accepted (requestRead (atHand w) (placeAt (w .place)) .answer)

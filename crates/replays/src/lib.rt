@@ -1,0 +1,287 @@
+// Replays: ticks that come as bytes, one request after another, are made where they are whole, and the lines that they print.
+ghost use mathlib.Core.Path.{_≡_};
+ghost use Prim.Native.Nat.{_+_, _-_, _≤_, _<_, min};
+ghost use lib.ListN.{length, getD, take};
+ghost use Rattle.tasks.specs.Below.{padded};
+ghost use Rattle.runs.specs.Allowed.{noTasks};
+ghost use Rattle.replays.specs.Requests.{tasksAt, requestSize, refusedRequest, requestRead};
+ghost use Rattle.replays.specs.Replay.{wholes, start as begun, playedOn, lastAnswer};
+ghost use Rattle.replays.specs.Turns.{askedOf, shownOf, turnsOf};
+use dispatch::State;
+use dispatch::Tasks;
+use dispatch::Ticked;
+use lines::Text;
+use plans::Plan;
+use tasks::Answer;
+use tasks::Place;
+use tasks::Refusal;
+use tasks::TaskNo;
+
+// A tick's two sets, or why the bytes hold none.
+pub struct Asked {
+    pub answer: Answer,
+    pub finished: Tasks,
+    pub released: Tasks,
+}
+
+// A replay under way: the state, the bytes at hand, which are the first `count`, the place of the first of them in the input, and the lines to print.
+pub struct Player {
+    pub state: State,
+    pub bytes: [u8; 160],
+    pub count: usize,
+    pub place: usize,
+    pub text: Text,
+}
+
+// Bytes at hand that are played: the next request begins at `at`, and the lines so far.
+struct Reel {
+    bytes: [u8; 160],
+    count: usize,
+    at: usize,
+    text: Text,
+}
+
+// What playing some requests comes to.
+struct Shot {
+    reel: Reel,
+    state: State,
+}
+
+fn smaller(a: usize, b: usize) -> usize
+    ensures { λ r. ⌜ r ≡ min a b ⌝ }
+{
+    if a < b { a } else { b }
+}
+
+fn no_tasks() -> Tasks
+    ensures { λ r. ⌜ r ≡ noTasks ⌝ }
+{
+    Tasks {
+        members: [TaskNo(0); 64],
+        count: 0,
+    }
+}
+
+// A byte as an index.
+fn wide(x: u8) -> usize
+    ensures { λ r. ⌜ (r ≡ x) × (r < 256) ⌝ }
+{
+    x as usize
+}
+
+// The n tasks whose numbers stand from a place on.
+fn tasks_at(bytes: &[u8], at: usize, n: usize) -> Tasks
+    requires { ⌜ (n ≤ 64) × (at + n ≤ length (now bytes)) ⌝ }
+    ensures { λ r. ⌜ r ≡ tasksAt (now (bytes .entry)) at n ⌝ }
+{
+    let mut members = [TaskNo(0); 64];
+    let mut k = 0;
+    while k < n {
+        members[k] = TaskNo(bytes[at + k]);
+        k += 1;
+    }
+    Tasks { members, count: n }
+}
+
+// How many bytes a request takes, as far as those at hand tell.
+fn request_size(bytes: &[u8]) -> usize
+    ensures { λ r. ⌜ (r ≡ requestSize (now (bytes .entry))) × (r ≤ 130) ⌝ }
+{
+    if bytes.len() <= 0 {
+        return 1;
+    }
+    let a = wide(bytes[0]);
+    if 64 < a {
+        return 1;
+    }
+    if bytes.len() <= 1 + a {
+        return 2 + a;
+    }
+    let b = wide(bytes[1 + a]);
+    if 64 < b {
+        return 2 + a;
+    }
+    2 + a + b
+}
+
+fn refused(refusal: Refusal) -> Asked
+    ensures { λ r. ⌜ r ≡ refusedRequest refusal ⌝ }
+{
+    Asked {
+        answer: Answer::Refused(refusal),
+        finished: no_tasks(),
+        released: no_tasks(),
+    }
+}
+
+// Reads a tick's request: any bytes at all, the first of which stands at `start` of the input.
+fn read_request(bytes: &[u8], start: Place) -> Asked
+    ensures { λ r. ⌜ r ≡ requestRead (now (bytes .entry)) start ⌝ }
+{
+    if bytes.len() <= 0 {
+        return refused(Refusal::CutShort(start));
+    }
+    let a = wide(bytes[0]);
+    if 64 < a {
+        return refused(Refusal::WrongLength(start));
+    }
+    if bytes.len() <= 1 + a {
+        return refused(Refusal::CutShort(start));
+    }
+    let b = wide(bytes[1 + a]);
+    if 64 < b {
+        return refused(Refusal::WrongLength(start));
+    }
+    if bytes.len() < 2 + a + b {
+        return refused(Refusal::CutShort(start));
+    }
+    Asked {
+        answer: Answer::Accepted,
+        finished: tasks_at(bytes, 1, a),
+        released: tasks_at(bytes, 2 + a, b),
+    }
+}
+
+// With how many whole and good requests the bytes at hand begin: each has two bytes at least.
+fn whole_requests(bytes: [u8; 160], count: usize) -> usize
+    requires { ⌜ count ≤ 160 ⌝ }
+    ensures { λ r. ⌜ r ≡ wholes 80 (take count bytes) ⌝ }
+{
+    let mut at = 0;
+    let mut n = 0;
+    while n < 80 {
+        let asked = read_request(&bytes[at..count], Place(0));
+        let answer = asked.answer;
+        if let Answer::Refused(_) = answer {
+            return n;
+        }
+        at += request_size(&bytes[at..count]);
+        n += 1;
+    }
+    n
+}
+
+// The request that is next.
+fn ask(reel: Reel) -> Asked
+    ensures { λ r. ⌜ r ≡ askedOf reel ⌝ }
+{
+    let bytes = reel.bytes;
+    let end = smaller(reel.count, 160);
+    let begin = smaller(reel.at, end);
+    read_request(&bytes[begin..end], Place(0))
+}
+
+// A tick's line is told, and the next request is next.
+fn show(reel: Reel, cores: usize, ticked: Ticked) -> Reel
+    ensures { λ r. ⌜ r ≡ shownOf cores reel ticked ⌝ }
+{
+    let bytes = reel.bytes;
+    let text = reel.text;
+    let end = smaller(reel.count, 160);
+    let begin = smaller(reel.at, end);
+    let size = request_size(&bytes[begin..end]);
+    Reel {
+        bytes,
+        count: reel.count,
+        at: begin + size,
+        text: text.ticked(cores, ticked),
+    }
+}
+
+// So many requests played.
+fn shoot(reel: Reel, state: State, plan: Plan, n: usize) -> Shot
+    ensures { λ r. ⌜ r ≡ turnsOf plan n reel state ⌝ }
+{
+    let mut reel = reel;
+    let mut state = state;
+    let mut i = 0;
+    while i < n {
+        let asked = ask(reel);
+        let finished = asked.finished;
+        let released = asked.released;
+        let ticked = dispatch::tick(plan, state, finished, released);
+        reel = show(reel, plan.cores, ticked);
+        state = ticked.state;
+        i += 1;
+    }
+    Shot { reel, state }
+}
+
+// The bytes from a place on, moved to the beginning.
+fn left(bytes: [u8; 160], count: usize, at: usize) -> [u8; 160]
+    requires { ⌜ (at ≤ count) × (count ≤ 160) ⌝ }
+    ensures { λ r. ⌜ r ≡ padded 160 (count - at) 0 (λ i. getD bytes (at + i) 0) ⌝ }
+{
+    let mut moved = [0u8; 160];
+    let mut i = 0;
+    while i < count - at {
+        moved[i] = bytes[at + i];
+        i += 1;
+    }
+    moved
+}
+
+// The place `n` bytes further on, as far as a number tells.
+fn further(place: usize, n: usize) -> usize
+    ensures { λ r. ⌜ r ≡ min (place + n) 18446744073709551615 ⌝ }
+{
+    if n <= usize::MAX - place {
+        place + n
+    } else {
+        usize::MAX
+    }
+}
+
+// A replay that begins at a place of the input.
+pub fn start(place: usize) -> Player
+    ensures { λ r. ⌜ r ≡ begun place ⌝ }
+{
+    Player {
+        state: dispatch::fresh(),
+        bytes: [0u8; 160],
+        count: 0,
+        place,
+        text: Text::empty(),
+    }
+}
+
+// Plays all whole requests at hand: their lines are the text, and what is left stands at the beginning.
+pub fn play(player: Player, plan: Plan) -> Player
+    ensures { λ r. ⌜ r ≡ playedOn plan player ⌝ }
+{
+    let bytes = player.bytes;
+    let state = player.state;
+    let count = smaller(player.count, 160);
+    let n = whole_requests(bytes, count);
+    let reel = Reel {
+        bytes,
+        count,
+        at: 0,
+        text: Text::empty(),
+    };
+    let shot = shoot(reel, state, plan, n);
+    let done = shot.reel;
+    let state = shot.state;
+    let text = done.text;
+    let at = smaller(done.at, count);
+    Player {
+        state,
+        bytes: left(bytes, count, at),
+        count: count - at,
+        place: further(player.place, at),
+        text,
+    }
+}
+
+// At the end of the input: why what is left is no request, or that nothing is left.
+pub fn last(player: Player) -> Answer
+    ensures { λ r. ⌜ r ≡ lastAnswer player ⌝ }
+{
+    let bytes = player.bytes;
+    let count = smaller(player.count, 160);
+    if count == 0 {
+        return Answer::Accepted;
+    }
+    let asked = read_request(&bytes[..count], Place(player.place));
+    asked.answer
+}
