@@ -173,11 +173,7 @@ module _ (a b : Plan) (plans : SamePlan a b) where
   preempted-same s t n m e f = rw (f .preemptions, count-same (a .cores) (preempted s n) (preempted t m) (λ x l. one x l), plans .cores)
     where
       one : (x : ℕ) → x < a .cores → preempted s n x ≡ preempted t m x
-      one x l = rw (e .last x l, f .last x l) (go (lastOf t x))
-        where
-          go : (r : Runner) → byRunner r false (λ k. isActive (jobOf s k .phase) && not (names k (lastOf m x))) ≡ byRunner r false (λ k. isActive (jobOf t k .phase) && not (names k (lastOf m x)))
-          go Idle = refl
-          go (Runs u) = rw (job-of s t e (u .0))
+      one x l = rw (e .last x l, f .last x l, e .jobs)
 
   counted-same : (s t n m : State) → Alike s t → Alike n m → Alike (countPreempted a s n) (countPreempted b t m)
   unfolding countPreempted
