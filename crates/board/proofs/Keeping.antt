@@ -38,7 +38,7 @@ use denote.Signature.{plain}
 use denote.Steps.{only, owned, heard, facts, nothing}
 use denote.Struct.Steps.{spelt}
 use denote.Triple.Call.{calls-at}
-use denote.Triple.Clauses.{Ended, Clauses, closing, Lasts, lasts}
+use denote.Triple.Clauses.{Ended, Clauses, closing, Lasts, lasts, atExit}
 use denote.Triple.Spec.{Meets, tripleOf}
 use denote.Triple.Statement.{Contract, Triple}
 use denote.Triple.Walked.{says, Stays, stay-none, walkOf, AllGo, goes-none, Walks, ends-at, walked, walk-meets}
@@ -51,6 +51,7 @@ use Rattle.dispatch.proofs.State as S
 use Rattle.board.specs.Kept.{keptFor}
 use Rattle.board.specs.Ran.{ranOf}
 use Rattle.board.specs.declared.Ran.{Ran}
+use Rattle.board.proofs.Settled.{Stepped}
 use Rattle.board.proofs.Walk.{Held, plans, states, sets, rans, beside, still, word, one-more, holds, fails}
 use Rattle.board.proofs.Calls.{Told, asks, Equates, told}
 use Rattle.board.proofs.step as step
@@ -133,8 +134,16 @@ module _ {M : Type 1} (𝓤 : URA M) (H : Heap 𝓤) (A : Atoms 𝓤) (at-mem : 
       abbrev asked : X .row .Denot → State → Ticked
       asked x s = tick p s (F x p s) (R x p s)
 
+      abbrev to : X .row .Denot → State → ℕ → GName → RefT State × (Plan × (Tasks × (Tasks × Unit {0})))
+      to x s b δ = (lent s b δ, (p, (F x p s, (R x p s, tt))))
+
       abbrev to-step : X .row .Denot → State → ℕ → ℕ → GName → Step .Ghost
-      to-step x s α b δ = (((α ∷ [], tt), (fullShare, tt), tt, (lent s b δ, (p, (F x p s, (R x p s, tt)))), (vptr b 0 ∷ [], (plans .val p ∷ [], (sets .val (F x p s) ∷ [], (sets .val (R x p s) ∷ [], tt))))), tt)
+      to-step x s α b δ = (((α ∷ [], tt), (fullShare, tt), tt, to x s b δ, (vptr b 0 ∷ [], (plans .val p ∷ [], (sets .val (F x p s) ∷ [], (sets .val (R x p s) ∷ [], tt))))), tt)
+
+      -- what it says at exit
+      stepped : (x : X .row .Denot) (s : State) (α b : ℕ) (δ : GName) (r : Ran) (ws : Lasts step.ended (α ∷ [], tt) (to x s b δ))
+          → ent 𝓤 (step.clauses 𝓤 H A at-mem run (α ∷ [], tt) (to x s b δ) .ensures tt r (atExit step.ended (α ∷ [], tt) (to x s b δ) ws)) (fact 𝓤 (Stepped p s (F x p s) (R x p s) r (ws .0)))
+      stepped x s α b δ r ws = id⊢ 𝓤 _
 
       goes-step : (x : X .row .Denot) (s : State) → Is (sets .row) (F x p s) (sets .val (F x p s) ∷ []) → Is (sets .row) (R x p s) (sets .val (R x p s) ∷ []) → (α b : ℕ) (δ : GName)
           → ent 𝓤 (sep 𝓤 (A .lft (α ∷ []) fullShare) (sem 𝓤 H A (MutRef (named 0) (α ∷ []) (states .row) .own (lent s b δ) (vptr b 0 ∷ [])))) (Step .pre (to-step x s α b δ))
@@ -203,9 +212,9 @@ module _ {M : Type 1} (𝓤 : URA M) (H : Heap 𝓤) (A : Atoms 𝓤) (at-mem : 
                 use2 W (raw (Step .pre (to-step x s α l₅ δ))) (goes-step x s is-f is-r α l₅ δ) $
                 -- [what `step` asks; the lender's part; _1; _6; _10; _7; _8; room for _9; _11; _12; _2; …]
                 calls-at ! fm Step known (to-step x s α l₅ δ) (and-then ! (load ! (from ! (stop !)) (look ! 9 refl)) (and-then ! (load ! (from ! (stop !)) (look ! 10 refl)) (and-then ! (load ! (from ! (stop !)) (look ! 5 refl)) (and-then ! (load ! (from ! (stop !)) (look ! 6 refl)) (no-more !))))) (λ v.
-                use1 W (later (some (λ (r : Ran). ((‵ (flft (α ∷ []) fullShare) ⊛ ‵ ftrue) ⊛ ‵ (rans .row .own r (v ∷ []))) ⊛ some (λ (ws : Lasts step.ended (α ∷ [], tt) (lent s l₅ δ, (p, (F x p s, (R x p s, tt))))).
-                ‵ (lasts step.ended (α ∷ [], tt) (lent s l₅ δ, (p, (F x p s, (R x p s, tt)))) ws) ⊛ raw (fact 𝓤 ((r ≡ ranOf (asked x s)) × (ws .0 ≡ asked x s .state))))))) (id⊢ 𝓤 _) $ await ! tt $ pick ! (λ r.
-                split ! $ move ! (1 ∷ []) $ pick ! (λ ws. split ! $ move ! (1 ∷ []) $ heard ! ((r ≡ ranOf (asked x s)) × (ws .0 ≡ asked x s .state)) (λ e. fsplit ! $ move ! (1 ∷ []) $ drop ! $
+                use1 W (later (some (λ (r : Ran). ((‵ (flft (α ∷ []) fullShare) ⊛ ‵ ftrue) ⊛ ‵ (rans .row .own r (v ∷ []))) ⊛ some (λ (ws : Lasts step.ended (α ∷ [], tt) (to x s l₅ δ)).
+                ‵ (lasts step.ended (α ∷ [], tt) (to x s l₅ δ) ws) ⊛ raw (step.clauses 𝓤 H A at-mem run (α ∷ [], tt) (to x s l₅ δ) .ensures tt r (atExit step.ended (α ∷ [], tt) (to x s l₅ δ) ws)))))) (id⊢ 𝓤 _) $ await ! tt $ pick ! (λ r.
+                split ! $ move ! (1 ∷ []) $ pick ! (λ ws. split ! $ move ! (1 ∷ []) $ use1 W (raw (fact 𝓤 (Stepped p s (F x p s) (R x p s) r (ws .0)))) (stepped x s α l₅ δ r ws) $ heard ! (Stepped p s (F x p s) (R x p s) r (ws .0)) (λ e. fsplit ! $ move ! (1 ∷ []) $ drop ! $
                 move ! (1 ∷ []) $ split ! $ move ! (1 ∷ []) $ facts ! (rans .row) (Is (rans .row)) (shows 𝓤 H A (rans .row)) r (v ∷ []) (λ is-ran. split ! $ move ! (1 ∷ []) $ drop ! $
                 -- [the token; the last value; the lender's part; _1; _6; _10; _7; _8; room for _9; …]
                 land ! (from ! (stop !)) (init ! 8 refl (rans .typed 𝓤 H A W r _ is-ran .0)) $
