@@ -1,4 +1,5 @@
 // The cases of document 01 that are not proved as examples: each prints what comes of it, and the gate compares.
+use board::Ran;
 use dispatch::Job;
 use dispatch::Phase;
 use dispatch::State;
@@ -209,7 +210,9 @@ fn only(task: u8) -> Tasks {
 // One tick from a state.
 fn tick(plan: Plan, state: State, finished: Tasks, released: Tasks) {
     let ticked = dispatch::tick(plan, state, finished, released);
-    console::print(Text::empty().ticked(plan.cores, ticked));
+    let answer = ticked.answer;
+    let runs = ticked.runs;
+    console::print(Text::empty().ran(plan.cores, Ran { answer, runs }));
 }
 
 // What a tick is refused with.

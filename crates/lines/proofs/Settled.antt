@@ -1,7 +1,7 @@
 -- Each public contract settles its result.
 use Rattle.tasks.proofs.Settling.{Settles, settled}
 use Rattle.lines.proofs.Text.empty.Reads as empty
-use Rattle.lines.proofs.Text.ticked.Reads as ticked
+use Rattle.lines.proofs.Text.ran.Reads as ran
 use Rattle.lines.proofs.refused.Reads as refused
 use Rattle.lines.proofs.totals.Reads as totals
 use Rattle.lines.proofs.planned.Reads as planned
@@ -12,8 +12,8 @@ use Rattle.lines.proofs.watched.Reads as watched
 pub empty-settled : Settles (empty.Post tt)
 empty-settled x e r s p q = settled p q
 
-pub ticked-settled : Settles (ticked.Post tt)
-ticked-settled x e r s p q = settled p q
+pub ran-settled : Settles (ran.Post tt)
+ran-settled x e r s p q = settled p q
 
 pub refused-settled : Settles (refused.Post tt)
 refused-settled x e r s p q = settled p q

@@ -22,6 +22,8 @@ use Rattle.dispatch.specs.declared.Runner.{Runner}
 use Rattle.dispatch.specs.declared.Runner.the-variants.{Idle, Runs}
 use Rattle.dispatch.specs.declared.State.{State}
 use Rattle.dispatch.specs.declared.Ticked.{Ticked}
+use Rattle.board.specs.Ran.{ranOf}
+use Rattle.board.specs.declared.Ran.{Ran}
 use Rattle.runs.specs.Allowed.{fullTick, stateAfter}
 use Rattle.runs.specs.declared.Watched.{Watched}
 use Rattle.lines.specs.Text.{ascii, decimal}
@@ -93,8 +95,12 @@ gapText (suc x) = ascii " "
 unfoldable pub runsText : ℕ → List CoreRun → List ℕ
 runsText m runs = row (min m 16) (λ x. gapText x ++ runnerText (getD runs x noRun .runner)) ++ ascii "\n"
 
+-- what a tick shows: the task on each core, or its refusal
+abbrev pub ranText : ℕ → Ran → List ℕ
+ranText m r = answerText (r .answer) (runsText m (r .runs))
+
 abbrev pub tickedText : ℕ → Ticked → List ℕ
-tickedText m t = answerText (t .answer) (runsText m (t .runs))
+tickedText m t = ranText m (ranOf t)
 
 -- `late 0 preemptions 4`
 unfoldable pub totalsText : State → List ℕ

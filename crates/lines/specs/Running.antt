@@ -5,12 +5,12 @@ use Rattle.dispatch.specs.declared.State.{State}
 use Rattle.board.specs.Kept.{keptFor}
 use Rattle.board.specs.declared.Ran.{Ran}
 use Rattle.runs.specs.Watching.{noneFinished, allReleased}
-use Rattle.lines.specs.Lines.{tickedText, totalsText}
+use Rattle.lines.specs.Lines.{ranText, totalsText}
 use Rattle.lines.specs.Text.{puts}
 use Rattle.lines.specs.declared.Text.{Text}
 
 abbrev pub withLine : Text → Plan → Ran → State → Text
-withLine t p r s = puts t (tickedText (p .cores) (record { answer = r .answer; runs = r .runs; state = s }))
+withLine t p r s = puts t (ranText (p .cores) r)
 
 abbrev pub withTotals : Text → State → Text
 withTotals t s = puts t (totalsText s)

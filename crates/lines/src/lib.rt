@@ -5,13 +5,12 @@ ghost use Rattle.tasks.specs.Refusals.{tells, number as numbered};
 ghost use Rattle.runs.specs.Allowed.{noTasks, allowedSet};
 ghost use Rattle.lines.specs.Running.{withLine, withTotals, ranFrom};
 ghost use Rattle.lines.specs.Text.{noText, put, puts, textOf, decimal, digits};
-ghost use Rattle.lines.specs.Lines.{meant, toldText, refusalText, headText, kindText, pieceText, listingText, plannedText, listerText, gapText, runnerText, runsText, tickedText, totalsText, runText, runnerProgramText, responseText, watchedText};
+ghost use Rattle.lines.specs.Lines.{meant, toldText, refusalText, headText, kindText, pieceText, listingText, plannedText, listerText, gapText, runnerText, runsText, ranText, totalsText, runText, runnerProgramText, responseText, watchedText};
 use board::Ran;
 use dispatch::CoreRun;
 use dispatch::Runner;
 use dispatch::State;
 use dispatch::Tasks;
-use dispatch::Ticked;
 use layout::Planned;
 use plans::Kind;
 use plans::Piece;
@@ -259,11 +258,11 @@ impl Text {
     }
 
     // A tick's line: what runs, or its refusal.
-    pub fn ticked(self, cores: usize, ticked: Ticked) -> Text
-        ensures { λ r. ⌜ r ≡ puts self (tickedText cores ticked) ⌝ }
+    pub fn ran(self, cores: usize, ran: Ran) -> Text
+        ensures { λ r. ⌜ r ≡ puts self (ranText cores ran) ⌝ }
     {
-        let answer = ticked.answer;
-        let runs = ticked.runs;
+        let answer = ran.answer;
+        let runs = ran.runs;
         match answer {
             Answer::Accepted => self.runs(cores, runs),
             Answer::Refused(refusal) => self.refusal(refusal),
@@ -320,17 +319,10 @@ fn all_released(_text: Text, plan: Plan, state: State) -> Tasks
 }
 
 // A tick's line more.
-fn with_line(text: Text, plan: Plan, ran: Ran, state: State) -> Text
-    ensures { λ r. ⌜ r ≡ withLine text plan ran state ⌝ }
+fn with_line(text: Text, plan: Plan, ran: Ran, _state: State) -> Text
+    ensures { λ r. ⌜ r ≡ withLine text plan ran «_state» ⌝ }
 {
-    let answer = ran.answer;
-    let runs = ran.runs;
-    let ticked = Ticked {
-        answer,
-        runs,
-        state,
-    };
-    text.ticked(plan.cores, ticked)
+    text.ran(plan.cores, ran)
 }
 
 // The totals' line more.

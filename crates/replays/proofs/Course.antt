@@ -5,7 +5,6 @@ use native.Mathlib.Omega.{arith}
 use borrow.Author.Tests.{le-leb, lt-leb}
 use native.Mathlib.Decide.{decLt}
 use native.Mathlib.Nat.{zero-add}
-use native.Mathlib.Numerals.{add-one}
 use mathlib.Core.List.{List, []}
 use lib.ListN.{length, getD, take, drop, length-take, length-drop, drop-of-length-le}
 use lib.Seq.{drop-drop, ext-getD, getD-take, getD-drop}
@@ -15,16 +14,16 @@ use Rattle.tasks.specs.declared.Answer.{Answer}
 use Rattle.tasks.specs.declared.Answer.the-variants.{Accepted, Refused}
 use Rattle.tasks.specs.declared.Refusal.{Refusal}
 use Rattle.plans.specs.declared.Plan.{Plan}
-use Rattle.lines.specs.Lines.{tickedText}
+use Rattle.board.specs.Kept.{keptOnce, keptFor}
+use Rattle.board.specs.declared.Ran.{Ran}
+use Rattle.lines.specs.Lines.{ranText, tickedText}
 use Rattle.lines.specs.Text.{noText, puts, textOf}
 use Rattle.lines.specs.declared.Text.{Text}
 use Rattle.lines.proofs.Putting.{puts-parts}
-use Rattle.dispatch.specs.Tick.{tick}
 use Rattle.dispatch.specs.declared.State.{State}
-use Rattle.dispatch.specs.declared.Ticked.{Ticked}
 use Rattle.replays.specs.Requests.{finishes, releases, requestSize, requestRead}
 use Rattle.replays.specs.Replay.{placeAt, tickAsked, Standing, next, played, oneMore, wholes, atHand, standing, playedOn, lastAnswer}
-use Rattle.replays.specs.Turns.{endOf, beginOf, handed, askedOf, shownOf, shotOf, turnsOf}
+use Rattle.replays.specs.Turns.{endOf, beginOf, handed, askedOf, finishesOf, releasesOf, shownOf, shotOf, shotAfter}
 use Rattle.replays.specs.declared.Asked.{Asked}
 use Rattle.replays.specs.declared.Player.{Player}
 use Rattle.replays.specs.declared.Reel.{Reel}
@@ -110,26 +109,18 @@ module _ (bytes : List ℕ) (count at n : ℕ) (a : Asked) (c : Counted (take co
 
 -- ---- the code's turns
 
-pub turns-start : (p : Plan) (x : Reel) (s : State) → turnsOf p 0 x s ≡ record { reel = x; state = s }
-unfolding turnsOf
-turns-start p x s = refl
-
-pub turns-more : (p : Plan) (i : ℕ) (x : Reel) (s : State) (y z : Reel) {u : State} {a : Asked} {t : Ticked} → turnsOf p i x s ≡ record { reel = y; state = u } → a ≡ askedOf y → t ≡ tick p u (a .finished) (a .released)
-    → z ≡ shownOf (p .cores) y t → turnsOf p (i + 1) x s ≡ record { reel = z; state = t .state }
-unfolding turnsOf
-turns-more p i x s y z e ea et ez = rw (add-one, e, ← ea, ← et, ← ez)
-
-pub shown-is : (m : ℕ) (x : Reel) (t : Ticked) (e b k : ℕ) (u : Text) → e ≡ endOf x → b ≡ min (x .at) e → k ≡ requestSize (take (e - b) (drop b (x .bytes))) → u ≡ puts (x .text) (tickedText m t)
-    → record { bytes = x .bytes; count = x .count; at = b + k; text = u } ≡ shownOf m x t
+-- the request after it is next, as the code finds it
+pub shown-is : (x : Reel) (p : Plan) (r : Ran) (s : State) (e b k : ℕ) (u : Text) → e ≡ endOf x → b ≡ min (x .at) e → k ≡ requestSize (take (e - b) (drop b (x .bytes))) → u ≡ puts (x .text) (ranText (p .cores) r)
+    → record { bytes = x .bytes; count = x .count; at = b + k; text = u } ≡ shownOf x p r s
 unfolding shownOf
-shown-is m x t e b k u he hb hk hu =
+shown-is x p r s e b k u he hb hk hu =
     let size : k ≡ requestSize (handed x) = hk ∙ ap requestSize (handed-is x e b he hb) in
     let start : b ≡ beginOf x = hb ∙ ap (min (x .at)) he in
     rw (size, start, hu)
 
 -- ---- the code's turns are the definition's
 
--- a shot and a standing over the first c of some bytes
+-- what is played and a standing over the first c of some bytes
 record Alike (bytes : List ℕ) (c : ℕ) (y : Shot) (z : Standing) : Type 0 where
   bytes-same : y .reel .bytes ≡ bytes
   count-same : y .reel .count ≡ c
@@ -145,7 +136,7 @@ drop-min a c bs h = go (decLt a c)
     go (no l) = let e : min a c ≡ c = omega arith in ap (λ (k : ℕ). drop k bs) e ∙ drop-of-length-le bs {i = c} h ∙ sym (drop-of-length-le bs {i = a} (omega arith))
 
 module _ (p : Plan) (bytes : List ℕ) (c : ℕ) (few : c ≤ 160) where
-  shot-next : (y : Shot) (z : Standing) → Alike bytes c y z → Alike bytes c (shotOf p (y .reel) (tickAsked p (y .state) (askedOf (y .reel)))) (next p z)
+  shot-next : (y : Shot) (z : Standing) → Alike bytes c y z → Alike bytes c (shotOf (keptOnce finishesOf releasesOf shownOf p (y .reel) (y .state) .0) (keptOnce finishesOf releasesOf shownOf p (y .reel) (y .state) .1)) (next p z)
   unfolding next shownOf
   shot-next y z h =
       let all : min c 160 ≡ c = omega arith in
@@ -161,10 +152,10 @@ module _ (p : Plan) (bytes : List ℕ) (c : ℕ) (few : c ≤ 160) where
         said-same = rw (ticks, h .said-same) (sym (puts-parts noText (z .said) (tickedText (p .cores) (tickAsked p (z .state) (requestRead (z .left) (placeAt 0))))));
       }
 
-  shot-played : (n : ℕ) (x : Reel) (s : State) (z : Standing) → Alike bytes c (record { reel = x; state = s }) z → Alike bytes c (turnsOf p n x s) (played p n z)
-  unfolding turnsOf played
+  shot-played : (n : ℕ) (x : Reel) (s : State) (z : Standing) → Alike bytes c (shotOf x s) z → Alike bytes c (shotAfter x p s n) (played p n z)
+  unfolding keptFor played
   shot-played zero x s z h = h
-  shot-played (suc n) x s z h = shot-next (turnsOf p n x s) (played p n z) (shot-played n x s z h)
+  shot-played (suc n) x s z h = shot-next (shotAfter x p s n) (played p n z) (shot-played n x s z h)
 
 nothing-said : noText ≡ textOf []
 unfolding puts
@@ -185,7 +176,7 @@ standing-is w c at y z moved place full hc h ha hm hp =
 
 -- what `play` makes of its shot is what the definition says
 pub played-is : (p : Plan) (w : Player) (c n at : ℕ) (u : Text) (y : Shot) (moved : List ℕ) (place : ℕ) → length (w .bytes) ≡ 160 → c ≡ min (w .count) 160 → n ≡ wholes 80 (take c (w .bytes)) → u ≡ noText
-    → y ≡ turnsOf p n (record { bytes = w .bytes; count = c; at = 0; text = u }) (w .state) → at ≡ min (y .reel .at) c → moved ≡ padded 160 (c - at) 0 (λ i. getD (w .bytes) (at + i) 0) → place ≡ min (w .place + at) 18446744073709551615
+    → y ≡ shotAfter (record { bytes = w .bytes; count = c; at = 0; text = u }) p (w .state) n → at ≡ min (y .reel .at) c → moved ≡ padded 160 (c - at) 0 (λ i. getD (w .bytes) (at + i) 0) → place ≡ min (w .place + at) 18446744073709551615
     → record { state = y .state; bytes = moved; count = c - at; place = place; text = y .reel .text } ≡ playedOn p w
 unfolding playedOn
 played-is p w c n at u y moved place full hc hn hu hy ha hm hp =

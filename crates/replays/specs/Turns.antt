@@ -1,14 +1,16 @@
 -- The requests at hand as the code plays them: where the next one begins, and the lines so far.
-use Prim.Native.Nat.{ℕ, zero, suc, _+_, min}
+use Prim.Native.Nat.{ℕ, _+_, min}
 use mathlib.Core.List.{List}
 use lib.ListN.{take, drop}
 use Rattle.plans.specs.declared.Plan.{Plan}
 use Rattle.dispatch.specs.declared.State.{State}
-use Rattle.dispatch.specs.declared.Ticked.{Ticked}
-use Rattle.lines.specs.Lines.{tickedText}
+use Rattle.dispatch.specs.declared.Tasks.{Tasks}
+use Rattle.board.specs.Kept.{keptFor}
+use Rattle.board.specs.declared.Ran.{Ran}
+use Rattle.lines.specs.Lines.{ranText}
 use Rattle.lines.specs.Text.{puts}
 use Rattle.replays.specs.Requests.{requestSize, requestRead}
-use Rattle.replays.specs.Replay.{placeAt, tickAsked}
+use Rattle.replays.specs.Replay.{placeAt}
 use Rattle.replays.specs.declared.Asked.{Asked}
 use Rattle.replays.specs.declared.Reel.{Reel}
 use Rattle.replays.specs.declared.Shot.{Shot}
@@ -26,14 +28,19 @@ handed x = drop (beginOf x) (take (endOf x) (x .bytes))
 abbrev pub askedOf : Reel → Asked
 askedOf x = requestRead (handed x) (placeAt 0)
 
+abbrev pub finishesOf : Reel → Plan → State → Tasks
+finishesOf x p s = askedOf x .finished
+
+abbrev pub releasesOf : Reel → Plan → State → Tasks
+releasesOf x p s = askedOf x .released
+
 -- one request on
-unfoldable pub shownOf : ℕ → Reel → Ticked → Reel
-shownOf m x t = record { bytes = x .bytes; count = x .count; at = beginOf x + requestSize (handed x); text = puts (x .text) (tickedText m t) }
+unfoldable pub shownOf : Reel → Plan → Ran → State → Reel
+shownOf x p r s = record { bytes = x .bytes; count = x .count; at = beginOf x + requestSize (handed x); text = puts (x .text) (ranText (p .cores) r) }
+
+abbrev pub shotOf : Reel → State → Shot
+shotOf x s = record { reel = x; state = s }
 
 -- so many requests on
-abbrev pub shotOf : Plan → Reel → Ticked → Shot
-shotOf p x t = record { reel = shownOf (p .cores) x t; state = t .state }
-
-unfoldable pub turnsOf : Plan → ℕ → Reel → State → Shot
-turnsOf p zero x s = record { reel = x; state = s }
-turnsOf p (suc k) x s = shotOf p (turnsOf p k x s .reel) (tickAsked p (turnsOf p k x s .state) (askedOf (turnsOf p k x s .reel)))
+abbrev pub shotAfter : Reel → Plan → State → ℕ → Shot
+shotAfter x p s n = shotOf (keptFor finishesOf releasesOf shownOf p n x s .0) (keptFor finishesOf releasesOf shownOf p n x s .1)

@@ -6,10 +6,10 @@ ghost use Rattle.tasks.specs.Below.{padded};
 ghost use Rattle.runs.specs.Allowed.{noTasks};
 ghost use Rattle.replays.specs.Requests.{tasksAt, requestSize, refusedRequest, requestRead};
 ghost use Rattle.replays.specs.Replay.{wholes, start as begun, playedOn, lastAnswer};
-ghost use Rattle.replays.specs.Turns.{askedOf, shownOf, turnsOf};
+ghost use Rattle.replays.specs.Turns.{askedOf, shownOf, shotOf, shotAfter};
+use board::Ran;
 use dispatch::State;
 use dispatch::Tasks;
-use dispatch::Ticked;
 use lines::Text;
 use plans::Plan;
 use tasks::Answer;
@@ -171,9 +171,25 @@ fn ask(reel: Reel) -> Asked
     read_request(&bytes[begin..end], Place(0))
 }
 
-// A tick's line is told, and the next request is next.
-fn show(reel: Reel, cores: usize, ticked: Ticked) -> Reel
-    ensures { λ r. ⌜ r ≡ shownOf cores reel ticked ⌝ }
+// The tasks that the next request tells as finished.
+fn finishes(reel: Reel, _plan: Plan, _state: State) -> Tasks
+    ensures { λ r. ⌜ r ≡ askedOf reel .finished ⌝ }
+{
+    let asked = ask(reel);
+    asked.finished
+}
+
+// The tasks that the next request releases.
+fn releases(reel: Reel, _plan: Plan, _state: State) -> Tasks
+    ensures { λ r. ⌜ r ≡ askedOf reel .released ⌝ }
+{
+    let asked = ask(reel);
+    asked.released
+}
+
+// A tick's line is told, and the request after it is next.
+fn show(reel: Reel, plan: Plan, ran: Ran, _state: State) -> Reel
+    ensures { λ r. ⌜ r ≡ shownOf reel plan ran «_state» ⌝ }
 {
     let bytes = reel.bytes;
     let text = reel.text;
@@ -184,27 +200,29 @@ fn show(reel: Reel, cores: usize, ticked: Ticked) -> Reel
         bytes,
         count: reel.count,
         at: begin + size,
-        text: text.ticked(cores, ticked),
+        text: text.ran(plan.cores, ran),
     }
 }
 
-// So many requests played.
-fn shoot(reel: Reel, state: State, plan: Plan, n: usize) -> Shot
-    ensures { λ r. ⌜ r ≡ turnsOf plan n reel state ⌝ }
+fn taken(reel: Reel, state: State) -> Shot
+    ensures { λ r. ⌜ r ≡ shotOf reel state ⌝ }
 {
-    let mut reel = reel;
-    let mut state = state;
-    let mut i = 0;
+    Shot { reel, state }
+}
+
+// So many requests played from a state, which is the record that is kept here and stepped where it stands.
+fn shoot(mut reel: Reel, plan: Plan, mut state: State, n: usize) -> Shot
+    ensures { λ r. ⌜ r ≡ shotAfter reel plan state n ⌝ }
+{
+    let mut i: usize = 0;
     while i < n {
-        let asked = ask(reel);
-        let finished = asked.finished;
-        let released = asked.released;
-        let ticked = dispatch::tick(plan, state, finished, released);
-        reel = show(reel, plan.cores, ticked);
-        state = ticked.state;
+        let finished = finishes(reel, plan, state);
+        let released = releases(reel, plan, state);
+        let ran = board::step(&mut state, plan, finished, released);
+        reel = show(reel, plan, ran, state);
         i += 1;
     }
-    Shot { reel, state }
+    taken(reel, state)
 }
 
 // The bytes from a place on, moved to the beginning.
@@ -259,7 +277,7 @@ pub fn play(player: Player, plan: Plan) -> Player
         at: 0,
         text: Text::empty(),
     };
-    let shot = shoot(reel, state, plan, n);
+    let shot = shoot(reel, plan, state, n);
     let done = shot.reel;
     let state = shot.state;
     let text = done.text;

@@ -1,66 +1,55 @@
-use Rattle.replays.proofs.Course.{turns-start, turns-more}
-use borrow.Author.Needs.{needs}
-use Prim.Native.Nat.{_≤_, _-_}
-use mathlib.Core.Path.{_≡_, refl, sym, ap, _∙_}
-use native.Mathlib.Omega.{arith}
-use Rattle.replays.specs.Turns.{turnsOf}
-use Rattle.replays.proofs.shoot.Statement.{statement}
-use Rattle.replays.proofs.shoot.Tie as tie
-use Rattle.replays.proofs.shoot.Reads as reads
-use Rattle.replays.proofs.shoot.Lts as lts
-use Rattle.dispatch.proofs.tick.Reads as tick-reads
-use Rattle.replays.proofs.ask.Reads as ask-reads
-use Rattle.replays.proofs.show.Reads as show-reads
+-- `replays::shoot` meets its contract: the loop that keeps one record, in which each tick's sets are read from the bytes at hand.
+-- Assumes nothing.
+use mathlib.Core.Path.{refl}
+use contract.Running.{givenOf, tables, tablesOf}
+use denote.Triple.Spec.{tripleOf}
+use denote.Triple.Table.{entered, cited}
+use Rattle.board.proofs.Walk.{Held, struct}
+use Rattle.board.proofs.Keeping.{Step, keeps-meet}
+use Rattle.board.proofs.step.Symbol as step-def
+use Rattle.board.proofs.step.Symbol.{name as #board·step}
+use Rattle.board.proofs.step.Met as step-thm
+use Rattle.replays.specs.Turns.{finishesOf, releasesOf, shownOf, shotOf}
+use Rattle.replays.proofs.Reel as R
+use Rattle.replays.proofs.Reel.Laws as R′
+use Rattle.replays.proofs.Shot as S
+use Rattle.replays.proofs.Shot.Laws as S′
+use Rattle.replays.proofs.finishes as finishes
+use Rattle.replays.proofs.finishes.Symbol as finishes-def
+use Rattle.replays.proofs.finishes.Symbol.{name as #replays·finishes}
+use Rattle.replays.proofs.finishes.Met as finishes-thm
+use Rattle.replays.proofs.releases as releases
+use Rattle.replays.proofs.releases.Symbol as releases-def
+use Rattle.replays.proofs.releases.Symbol.{name as #replays·releases}
+use Rattle.replays.proofs.releases.Met as releases-thm
+use Rattle.replays.proofs.show as show
+use Rattle.replays.proofs.show.Symbol as show-def
+use Rattle.replays.proofs.show.Symbol.{name as #replays·show}
+use Rattle.replays.proofs.show.Met as show-thm
+use Rattle.replays.proofs.taken as taken
+use Rattle.replays.proofs.taken.Symbol as taken-def
+use Rattle.replays.proofs.taken.Symbol.{name as #replays·taken}
+use Rattle.replays.proofs.taken.Met as taken-thm
+use Rattle.replays.proofs.shoot.Key.{name as #replays·shoot}
+use Rattle.replays.proofs.shoot as shoot
+use Rattle.replays.proofs.shoot.Statement as stated
+use Rattle.replays.proofs.shoot.Code as code
 
-abbrev Inv-loop : tie.InvT-loop
-Inv-loop plan n reel₀ state₀ i₀ reel state i = (i ≤ n) × (turnsOf plan i reel₀ state₀ ≡ record { reel = reel; state = state })
+abbrev reels : Held
+reels = struct R.the-type R′.the-laws R′.the-plain R′.mir refl
 
-abbrev μ-loop : tie.MeasureT-loop
-μ-loop plan n reel₀ state₀ i₀ reel state i = n - i
+abbrev shots : Held
+shots = struct S.the-type S′.the-laws S′.the-plain S′.mir refl
 
--- src/lib.rt:198:5
-loop-holds : tie.Need-loop-holds Inv-loop μ-loop
-loop-holds c = (omega arith, turns-start _ _ _)
-
--- src/lib.rt:199:13
-ask-requires : tie.Need-ask-requires Inv-loop μ-loop
-ask-requires c κs = search needs
-
--- src/lib.rt:202:13
-tick-requires : tie.Need-tick-requires Inv-loop μ-loop
-tick-requires c κs = search needs
-
--- src/lib.rt:203:9
-show-requires : tie.Need-show-requires Inv-loop μ-loop
-show-requires c κs = search needs
-
--- src/lib.rt:205:9
-add-i : tie.Need-add-i Inv-loop μ-loop
-add-i c = search needs
-
--- src/lib.rt:198:5
-loop-less : tie.Need-loop-less Inv-loop μ-loop
-loop-less c = search needs
-
--- src/lib.rt:198:5
-loop-again : tie.Need-loop-again Inv-loop μ-loop
-loop-again c = (omega arith, turns-more _ _ _ _ _ _ (c .before .before .before .before .before .before .before .loop .inv .1) (c .before .before .before .before .before .ask .ensures) (c .before .before .tick .ensures) (c .before .show .ensures))
-
--- src/lib.rt:192:1
-returns : tie.Need-returns Inv-loop μ-loop
-returns c = let e : c .before .loop .i ≡ c .before .before .args .n = omega arith in sym (rw e at (c .before .loop .inv .1))
-
-pub shoot-spec : {M : Type 1} → statement M
-shoot-spec =
-    tie.close
-    (tie.spec
-    Inv-loop
-    μ-loop
-    loop-holds
-    ask-requires
-    tick-requires
-    show-requires
-    add-i
-    loop-less
-    loop-again
-    returns)
+pub shoot-spec : {M : Type 1} → stated.statement M
+unfolding code.routine tablesOf
+shoot-spec 𝓤 H 𝓜 𝓖 𝓡 =
+    entered 𝓤 H (tripleOf 𝓤 H (𝓖 .A) shoot.signature (shoot.spec 𝓤 H (𝓖 .A) (𝓜 .mem) (𝓡 .run)))
+    (tables 𝓤 H 𝓜 𝓡 code.env .C) (tables 𝓤 H 𝓜 𝓡 code.env .Λ) #replays·shoot code.function (code.unfolded 𝓤 H 𝓜 𝓡)
+    (keeps-meet 𝓤 H (𝓖 .A) (𝓜 .mem) (𝓡 .run) (givenOf 𝓤 H 𝓜 𝓖) reels shots finishesOf releasesOf shownOf shotOf #replays·finishes #replays·releases #replays·show #replays·taken
+    (tablesOf 𝓤 H 𝓜 (tables 𝓤 H 𝓜 𝓡 code.env))
+    (cited 𝓤 H (Step 𝓤 H (𝓖 .A) (𝓜 .mem) (𝓡 .run)) 𝓜 𝓡 code.env #board·step step-def.routine code.calls-board·step (step-thm.met 𝓤 H 𝓜 𝓖 𝓡))
+    (cited 𝓤 H (tripleOf 𝓤 H (𝓖 .A) finishes.signature (finishes.spec 𝓤 H (𝓖 .A) (𝓜 .mem) (𝓡 .run))) 𝓜 𝓡 code.env #replays·finishes finishes-def.routine code.calls-replays·finishes (finishes-thm.met 𝓤 H 𝓜 𝓖 𝓡))
+    (cited 𝓤 H (tripleOf 𝓤 H (𝓖 .A) releases.signature (releases.spec 𝓤 H (𝓖 .A) (𝓜 .mem) (𝓡 .run))) 𝓜 𝓡 code.env #replays·releases releases-def.routine code.calls-replays·releases (releases-thm.met 𝓤 H 𝓜 𝓖 𝓡))
+    (cited 𝓤 H (tripleOf 𝓤 H (𝓖 .A) show.signature (show.spec 𝓤 H (𝓖 .A) (𝓜 .mem) (𝓡 .run))) 𝓜 𝓡 code.env #replays·show show-def.routine code.calls-replays·show (show-thm.met 𝓤 H 𝓜 𝓖 𝓡))
+    (cited 𝓤 H (tripleOf 𝓤 H (𝓖 .A) taken.signature (taken.spec 𝓤 H (𝓖 .A) (𝓜 .mem) (𝓡 .run))) 𝓜 𝓡 code.env #replays·taken taken-def.routine code.calls-replays·taken (taken-thm.met 𝓤 H 𝓜 𝓖 𝓡)))

@@ -8,7 +8,7 @@ use Rattle.replays.proofs.show.Statement.{statement}
 use Rattle.replays.proofs.show.Tie as tie
 use Rattle.replays.proofs.show.Reads as reads
 use Rattle.replays.proofs.show.Lts as lts
-use Rattle.lines.proofs.Text.ticked.Reads as ticked-reads
+use Rattle.lines.proofs.Text.ran.Reads as ran-reads
 use Rattle.replays.proofs.request_size.Reads as request-size-reads
 use Rattle.replays.proofs.smaller.Reads as smaller-reads
 
@@ -37,16 +37,16 @@ request-size-requires : tie.Need-request-size-requires
 request-size-requires c κs = search needs
 
 -- src/lib.rt:186:13
-add-t11 : tie.Need-add-t11
-add-t11 c = search needs
+add-t12 : tie.Need-add-t12
+add-t12 c = search needs
 
 -- src/lib.rt:187:15
-ticked-requires : tie.Need-ticked-requires
-ticked-requires c κs = search needs
+ran-requires : tie.Need-ran-requires
+ran-requires c κs = search needs
 
 -- src/lib.rt:175:1
 returns : tie.Need-returns
-returns c = shown-is _ _ _ _ _ _ _ (c .before .before .before .before .before .smaller .ensures) (c .before .before .before .before .smaller2 .ensures) (c .before .request-size .ensures .0) (c .ticked .ensures)
+returns c = shown-is _ _ _ _ _ _ _ _ (c .before .before .before .before .before .smaller .ensures) (c .before .before .before .before .smaller2 .ensures) (c .before .request-size .ensures .0) (c .ran .ensures)
 
 pub show-spec : {M : Type 1} → statement M
 show-spec =
@@ -58,6 +58,6 @@ show-spec =
     part-request-size-start
     part-request-size-end
     request-size-requires
-    add-t11
-    ticked-requires
+    add-t12
+    ran-requires
     returns)

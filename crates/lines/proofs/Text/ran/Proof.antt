@@ -1,8 +1,8 @@
 use borrow.Author.Needs.{needs}
-use Rattle.lines.proofs.Text.ticked.Statement.{statement}
-use Rattle.lines.proofs.Text.ticked.Tie as tie
-use Rattle.lines.proofs.Text.ticked.Reads as reads
-use Rattle.lines.proofs.Text.ticked.Lts as lts
+use Rattle.lines.proofs.Text.ran.Statement.{statement}
+use Rattle.lines.proofs.Text.ran.Tie as tie
+use Rattle.lines.proofs.Text.ran.Reads as reads
+use Rattle.lines.proofs.Text.ran.Lts as lts
 use Rattle.lines.proofs.Text.refusal.Reads as refusal-reads
 use Rattle.lines.proofs.Text.runs.Reads as runs-reads
 
@@ -30,7 +30,7 @@ returns c = simp (c .before .enum-told .given .1, c .runs2 .ensures)
 returns-2 : tie.Need-returns-2
 returns-2 c = simp (c .before .before .answer .given .1, c .refusal .ensures)
 
-pub ticked-spec : {M : Type 1} → statement M
-ticked-spec =
+pub ran-spec : {M : Type 1} → statement M
+ran-spec =
     tie.close
     (tie.spec enum-told runs-requires enum-known-answer refusal-requires returns returns-2)
