@@ -1,5 +1,6 @@
 // The cases of document 01 that are not proved as examples: each prints what comes of it, and the gate compares.
 use board::Ran;
+use bounds::Bounding;
 use dispatch::Job;
 use dispatch::Phase;
 use dispatch::State;
@@ -7,7 +8,6 @@ use dispatch::Tasks;
 use force::InForce;
 use libc::STDOUT_FILENO;
 use lines::Text;
-use plans::Bounding;
 use plans::Kind;
 use plans::Piece;
 use plans::Plan;
@@ -248,7 +248,7 @@ fn ticks(plan: Plan) {
 // The bound asked from outside.
 fn bounds(plan: Plan) {
     say(b"the bound of a piece past the list: ");
-    if let Bounding::Refused(refusal) = plans::ask_bound(plan, 2) {
+    if let Bounding::Refused(refusal) = bounds::ask_bound(plan, 2) {
         console::print(lines::refused(refusal));
     }
 }
@@ -265,5 +265,5 @@ fn main() {
     ticks(hand);
     bounds(hand);
     say(b"a share that is a task's only piece: ");
-    say_answer(plans::check_plan(by_hand(Kind::Share)));
+    say_answer(shapes::check_plan(by_hand(Kind::Share)));
 }

@@ -37,7 +37,7 @@ use Rattle.dispatch.proofs.Checked.{accepted-not, Good, good, sound, Ta
 use Rattle.dispatch.proofs.Kept.{ready, by-judged}
 use Rattle.dispatch.proofs.Steps.{finish-out, ready-pieces}
 use Rattle.dispatch.proofs.Highest.{runner-stands}
-use Rattle.dispatch.proofs.SamePlans.{last-same, checked-same}
+use Rattle.shapes.proofs.SamePlans.{last-same, checked-same}
 
 state-is : (s t : State) → s .jobs ≡ t .jobs → s .last ≡ t .last → s .late ≡ t .late → s .preemptions ≡ t .preemptions → s ≡ t
 state-is s t j l n m = let e : _≡_ {A = State} (record { jobs = s .jobs; last = s .last; late = s .late; preemptions = s .preemptions }) (record { jobs = t .jobs; last = t .last; late = t .late; preemptions = t .preemptions }) = rw (j, l, n, m) in e

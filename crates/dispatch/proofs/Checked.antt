@@ -15,11 +15,11 @@ use Rattle.tasks.specs.declared.Refusal.the-variants.{NotWellMade}
 use Rattle.tasks.proofs.Bools.{both}
 use Rattle.tasks.proofs.Tables.{Ranges}
 use Rattle.plans.specs.Pieces.{taskOf, pieceOf}
-use Rattle.plans.specs.Shape.{isShare, inOrder, checkedPlan}
+use Rattle.shapes.specs.Shape.{isShare, inOrder, checkedPlan}
 use Rattle.plans.specs.declared.Plan.{Plan}
-use Rattle.plans.proofs.InShape as shape
-use Rattle.plans.proofs.InShape.{GoodPlan, accepted-plan}
-use Rattle.plans.proofs.Shaped.{Fits, same-follows, tasks-rise}
+use Rattle.shapes.proofs.InShape as shape
+use Rattle.shapes.proofs.InShape.{GoodPlan, accepted-plan}
+use Rattle.shapes.proofs.Shaped.{Fits, same-follows, tasks-rise}
 use Rattle.dispatch.specs.Refusing.{judgedSets, judged}
 use Rattle.dispatch.specs.Sound.{Sound}
 use Rattle.dispatch.specs.WellMade.{wellMade}

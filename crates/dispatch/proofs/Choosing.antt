@@ -14,7 +14,7 @@ use Rattle.tasks.specs.Below.{padded}
 use Rattle.tasks.specs.Tables.{taskNo}
 use Rattle.plans.specs.Pieces.{taskOf, pieceOf}
 use Rattle.plans.specs.Rank.{outranks, above}
-use Rattle.plans.specs.Shape.{isLast}
+use Rattle.shapes.specs.Shape.{isLast}
 use Rattle.plans.specs.declared.Piece.{Piece}
 use Rattle.plans.specs.declared.Plan.{Plan}
 use Rattle.dispatch.proofs.Highest.{runner-stands}

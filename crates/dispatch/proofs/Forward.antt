@@ -11,7 +11,7 @@ use borrow.Author.Tests.{eqb-true, ltb-true}
 use Rattle.tasks.specs.declared.Answer.the-variants.{Accepted}
 use Rattle.tasks.proofs.Bools.{clash, both}
 use Rattle.plans.specs.Pieces.{taskOf, pieceOf}
-use Rattle.plans.specs.Shape.{isLast}
+use Rattle.shapes.specs.Shape.{isLast}
 use Rattle.plans.specs.declared.Plan.{Plan}
 use Rattle.dispatch.specs.Jobs.{jobOf, isActive, onceReleased, names}
 use Rattle.dispatch.specs.Rules.{endedJob, finishedJob, finish, turnsLate, markedJob, markLate, releasedJob, runsNow, ranJob, agedJob}

@@ -10,6 +10,5 @@ pub mod Steps
 pub mod Kept
 pub mod Alone
 pub mod Forward
-pub mod SamePlans
 pub mod Agree
 pub mod Settled

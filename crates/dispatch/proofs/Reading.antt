@@ -8,7 +8,7 @@ use native.Mathlib.Omega.{arith}
 use lib.Dec.{ltb, eqb}
 use borrow.Author.Tests.{le-ltb}
 use Rattle.plans.specs.Pieces.{taskOf, pieceOf}
-use Rattle.plans.specs.Shape.{isLast}
+use Rattle.shapes.specs.Shape.{isLast}
 use Rattle.plans.specs.declared.Plan.{Plan}
 use Rattle.dispatch.specs.Jobs.{jobOf, lastOf, byRunner, runningTask, isActive, onceReleased, names}
 use Rattle.dispatch.specs.Rules.{turnsLate, markedJob, agedJob, preempted}

@@ -8,7 +8,7 @@ use lib.Dec.{leb, ltb, eqb}
 use borrow.Author.Tests.{le-leb, ltb-true, lt-ltb, eqb-true, eq-eqb, not-false}
 use Rattle.tasks.proofs.Bools.{clash, both, both-make}
 use Rattle.plans.specs.Pieces.{taskOf, pieceOf}
-use Rattle.plans.specs.Shape.{sameTask, isLast}
+use Rattle.shapes.specs.Shape.{sameTask, isLast}
 use Rattle.plans.specs.declared.Plan.{Plan}
 use Rattle.dispatch.specs.Jobs.{byPhase, isActive, onceReleased}
 use Rattle.dispatch.specs.Rules.{endedJob, finishedJob, turnsLate, markedJob, firstPiece, releasedJob, ranJob, agedJob}

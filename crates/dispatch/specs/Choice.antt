@@ -5,7 +5,7 @@ use mathlib.Core.Path.{_≡_}
 use Prim.Native.Nat.{ℕ}
 use Rattle.tasks.specs.Below.{padded}
 use Rattle.plans.specs.Pieces.{noPiece, taskOf, pieceOf}
-use Rattle.plans.specs.Shape.{isLast}
+use Rattle.shapes.specs.Shape.{isLast}
 use Rattle.plans.specs.declared.Plan.{Plan}
 use Rattle.dispatch.specs.Jobs.{jobOf, isActive}
 use Rattle.dispatch.specs.Rules.{pieceAt, highest}

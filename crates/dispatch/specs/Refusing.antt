@@ -10,7 +10,7 @@ use Rattle.tasks.specs.declared.Refusal.{Refusal}
 use Rattle.tasks.specs.declared.Refusal.the-variants.{NotWellMade, NotRun, TooSoon, StillActive}
 use Rattle.tasks.specs.declared.TaskNo.{TaskNo}
 use Rattle.plans.specs.Pieces.{taskOf}
-use Rattle.plans.specs.Shape.{checkedPlan}
+use Rattle.shapes.specs.Shape.{checkedPlan}
 use Rattle.plans.specs.declared.Plan.{Plan}
 use Rattle.dispatch.specs.Jobs.{jobOf, lastOf, isActive, onceReleased, names}
 use Rattle.dispatch.specs.Rules.{finish}

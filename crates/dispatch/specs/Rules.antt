@@ -7,7 +7,7 @@ use Rattle.tasks.specs.Below.{first, count, padded}
 use Rattle.tasks.specs.Tables.{taskNo}
 use Rattle.plans.specs.Pieces.{taskOf, pieceOf}
 use Rattle.plans.specs.Rank.{above}
-use Rattle.plans.specs.Shape.{isLast}
+use Rattle.shapes.specs.Shape.{isLast}
 use Rattle.plans.specs.declared.Piece.{Piece}
 use Rattle.plans.specs.declared.Plan.{Plan}
 use Rattle.dispatch.specs.Jobs.{noJob, noRun, jobOf, lastOf, byRunner, isActive, onceReleased, names}

@@ -6,7 +6,7 @@ ghost use Prim.Native.Nat.{ℕ, _+_, _≤_, _<_, min};
 ghost use Rattle.tasks.specs.Below.{all, first, tabulate, padded};
 ghost use Rattle.tasks.specs.declared.Answer.the-variants.{Accepted};
 ghost use Rattle.plans.specs.Pieces.{taskOf, pieceOf};
-ghost use Rattle.plans.specs.Shape.{isLast, checkedPlan};
+ghost use Rattle.shapes.specs.Shape.{isLast, checkedPlan};
 ghost use Rattle.dispatch.specs.Choice.{noStand, standOf, StandsOf, found as foundBest};
 ghost use Rattle.dispatch.specs.Jobs.{freshState, runningTask, noJob, noRun, jobOf, byRunner, isActive, onceReleased, names as named};
 ghost use Rattle.dispatch.specs.Refusing.{notRun, tooSoon, stillActive, judgedSets, judged};
@@ -128,7 +128,7 @@ pub fn tick(plan: Plan, state: State, finished: Tasks, released: Tasks) -> Ticke
 fn judge(plan: Plan, state: State, finished: Tasks, released: Tasks) -> Answer
     ensures { λ r. ⌜ r ≡ judged plan state finished released ⌝ }
 {
-    let answer = plans::check_plan(plan);
+    let answer = shapes::check_plan(plan);
     match answer {
         Answer::Accepted => {
             if well_made(plan, state) {

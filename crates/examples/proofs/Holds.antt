@@ -6,8 +6,8 @@ use Rattle.tasks.specs.Tables.{checkedTasks}
 use Rattle.plans.specs.Pieces.{costs}
 use Rattle.plans.specs.Interference.{interference, periods}
 use Rattle.plans.specs.Rank.{above}
-use Rattle.plans.specs.Bound.{localDeadline, load, bound}
-use Rattle.plans.specs.Shape.{follows, inOrder, isLast, pieceFits, shape, checkedPlan}
+use Rattle.bounds.specs.Bound.{localDeadline, load, bound}
+use Rattle.shapes.specs.Shape.{follows, inOrder, isLast, pieceFits, shape, checkedPlan}
 use Rattle.layout.specs.Limit.{allowance, limitOf}
 use Rattle.layout.specs.Whole.{put, takesWhole}
 use Rattle.layout.specs.Shared.{giveShare, close, shareFrom}

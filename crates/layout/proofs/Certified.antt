@@ -15,11 +15,11 @@ use Rattle.tasks.specs.declared.Answer.the-variants.{Accepted, Refused}
 use Rattle.tasks.specs.declared.Refusal.{Refusal}
 use Rattle.tasks.specs.declared.Table.{Table}
 use Rattle.tasks.specs.declared.Task.{Task}
-use Rattle.plans.proofs.Shaped.{shape-accepted}
-use Rattle.plans.specs.Bound.{localDeadline, bound}
-use Rattle.plans.specs.Certificate.{Certified}
+use Rattle.shapes.proofs.Shaped.{shape-accepted}
+use Rattle.bounds.specs.Bound.{localDeadline, bound}
+use Rattle.bounds.specs.Certificate.{Certified}
 use Rattle.plans.specs.Pieces.{taskOf, pieceOf, CleanPlan}
-use Rattle.plans.specs.Shape.{checkedPlan}
+use Rattle.shapes.specs.Shape.{checkedPlan}
 use Rattle.layout.specs.Layout.{start, layFirst, Laying, laid, stuck, planned}
 use Rattle.layout.specs.declared.Draft.{Draft}
 use Rattle.layout.proofs.Drafts.{Ready, drafted-room, start-task}

@@ -16,9 +16,9 @@ use Rattle.tasks.specs.Tables.{noTask, checkedTable}
 use Rattle.tasks.specs.Tables as table
 use Rattle.tasks.specs.declared.Answer.the-variants.{Accepted}
 use Rattle.tasks.specs.declared.Table.{Table}
-use Rattle.plans.proofs.Shaped.{whole-first}
-use Rattle.plans.specs.Bound.{localDeadline}
-use Rattle.plans.specs.Leaves.{Moderate}
+use Rattle.shapes.proofs.Shaped.{whole-first}
+use Rattle.bounds.specs.Bound.{localDeadline}
+use Rattle.bounds.specs.Leaves.{Moderate}
 use Rattle.plans.specs.Pieces.{noPiece, taskOf, pieceOf, costs}
 use Rattle.plans.specs.declared.Piece.{Piece}
 use Rattle.plans.specs.declared.Plan.{Plan}

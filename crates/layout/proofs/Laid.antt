@@ -15,12 +15,12 @@ use Rattle.tasks.specs.Below as below
 use Rattle.tasks.specs.declared.Task.{Task}
 use Rattle.plans.proofs.Interference.{within-periods}
 use Rattle.plans.proofs.Rank.{above-core}
-use Rattle.plans.proofs.Shaped.{next-follows, same-follows, last-end}
-use Rattle.plans.specs.Bound.{localDeadline, bound}
+use Rattle.shapes.proofs.Shaped.{next-follows, same-follows, last-end}
+use Rattle.bounds.specs.Bound.{localDeadline, bound}
 use Rattle.plans.specs.Interference.{interference, periods}
 use Rattle.plans.specs.Pieces.{costs}
 use Rattle.plans.specs.Rank.{above}
-use Rattle.plans.specs.Shape.{follows, inOrder, isLast}
+use Rattle.shapes.specs.Shape.{follows, inOrder, isLast}
 use Rattle.plans.specs.declared.Kind.the-variants.{Share}
 use Rattle.plans.specs.declared.Piece.{Piece}
 use Rattle.layout.proofs.More.{costs-more, order-kept, last-new, local-kept, bound-grows}

@@ -11,11 +11,11 @@ use Rattle.tasks.proofs.Below.{sum-same}
 use Rattle.tasks.proofs.Bools.{both}
 use Rattle.tasks.specs.Below.{sum}
 use Rattle.tasks.specs.declared.Task.{Task}
-use Rattle.plans.specs.Bound.{localDeadline, load, bound}
+use Rattle.bounds.specs.Bound.{localDeadline, load, bound}
 use Rattle.plans.specs.Interference.{interference}
 use Rattle.plans.specs.Pieces.{costs}
 use Rattle.plans.specs.Rank.{above}
-use Rattle.plans.specs.Shape.{sameTask, inOrder, isLast}
+use Rattle.shapes.specs.Shape.{sameTask, inOrder, isLast}
 use Rattle.plans.specs.declared.Piece.{Piece}
 
 module _ (pc pc′ : ℕ → Piece) (n : ℕ) (same : (j : ℕ) → j < n → pc′ j ≡ pc j) where

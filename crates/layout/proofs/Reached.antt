@@ -9,8 +9,8 @@ use Rattle.tasks.specs.Below.{any, first}
 use Rattle.tasks.specs.Tables.{checkedTable}
 use Rattle.tasks.specs.declared.Answer.the-variants.{Accepted}
 use Rattle.tasks.specs.declared.Table.{Table}
-use Rattle.plans.specs.Bound.{localDeadline, bound}
-use Rattle.plans.specs.Leaves.{Moderate}
+use Rattle.bounds.specs.Bound.{localDeadline, bound}
+use Rattle.bounds.specs.Leaves.{Moderate}
 use Rattle.plans.specs.Pieces.{taskOf, pieceOf}
 use Rattle.layout.specs.Layout.{start, place, layFirst, laid}
 use Rattle.layout.specs.Whole.{takesWhole}

@@ -9,9 +9,9 @@ use Rattle.tasks.proofs.Below.{all-make}
 use Rattle.tasks.proofs.Bools.{clash, both-make}
 use Rattle.tasks.specs.Below.{sum}
 use Rattle.tasks.specs.declared.Task.{Task}
-use Rattle.plans.proofs.Shaped.{tasks-rise, more-fits, last-fits}
+use Rattle.shapes.proofs.Shaped.{tasks-rise, more-fits, last-fits}
 use Rattle.plans.specs.Pieces.{costs}
-use Rattle.plans.specs.Shape.{inOrder, isLast, pieceFits, shape}
+use Rattle.shapes.specs.Shape.{inOrder, isLast, pieceFits, shape}
 use Rattle.plans.specs.declared.Piece.{Piece}
 use Rattle.layout.proofs.Laid.{Laid, begun}
 

@@ -14,7 +14,7 @@ use Rattle.tasks.proofs.Tables.{Ranges}
 use Rattle.tasks.specs.Tables.{taskNo, coreNo}
 use Rattle.tasks.specs.declared.Task.{Task}
 use Rattle.plans.proofs.Rank.{above-core, above-share}
-use Rattle.plans.specs.Bound.{localDeadline, load, bound}
+use Rattle.bounds.specs.Bound.{localDeadline, load, bound}
 use Rattle.plans.specs.Interference.{periods}
 use Rattle.plans.specs.Pieces.{taskOf, pieceOf, costs}
 use Rattle.plans.specs.Rank.{above}

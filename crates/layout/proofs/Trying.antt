@@ -6,9 +6,9 @@ use lib.Dec.{leb, eqb}
 use lib.ListN.{set}
 use lib.Seq.{set-set}
 use Rattle.tasks.proofs.Bools.{clash}
-use Rattle.plans.specs.Bound.{localDeadline, load, bound}
+use Rattle.bounds.specs.Bound.{localDeadline, load, bound}
 use Rattle.plans.specs.Pieces.{taskOf, pieceOf}
-use Rattle.plans.specs.Shape.{isShare}
+use Rattle.shapes.specs.Shape.{isShare}
 use Rattle.plans.specs.declared.Piece.{Piece}
 use Rattle.plans.specs.declared.Plan.{Plan}
 use Rattle.layout.specs.Asked.{OwnDeadlines}

@@ -10,7 +10,7 @@ use Rattle.tasks.proofs.Below.{Found, any-found, any-make, any-each}
 use Rattle.tasks.proofs.Bools.{clash, neither}
 use Rattle.tasks.proofs.Tables.{Ranges}
 use Rattle.tasks.specs.Below.{any}
-use Rattle.plans.specs.Bound.{localDeadline, bound}
+use Rattle.bounds.specs.Bound.{localDeadline, bound}
 use Rattle.plans.specs.Interference.{periods}
 use Rattle.plans.specs.Pieces.{taskOf, pieceOf}
 use Rattle.layout.specs.Limit.{allowance, limit}

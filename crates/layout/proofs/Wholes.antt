@@ -14,10 +14,10 @@ use Rattle.tasks.proofs.Bools.{clash, both, both-make, right-one}
 use Rattle.tasks.proofs.Tables.{Ranges}
 use Rattle.tasks.specs.Below.{all}
 use Rattle.plans.proofs.Rank.{above-core, above-self, above-whole}
-use Rattle.plans.specs.Bound.{localDeadline, load, bound}
+use Rattle.bounds.specs.Bound.{localDeadline, load, bound}
 use Rattle.plans.specs.Pieces.{taskOf, pieceOf, costs}
 use Rattle.plans.specs.Rank.{above}
-use Rattle.plans.specs.Shape.{isShare}
+use Rattle.shapes.specs.Shape.{isShare}
 use Rattle.plans.specs.declared.Kind.{Kind}
 use Rattle.plans.specs.declared.Kind.the-variants.{Whole, Share}
 use Rattle.plans.specs.declared.Piece.{Piece}

@@ -3,10 +3,10 @@ use mathlib.Core.Path.{_≡_}
 use mathlib.Core.Bool.{Bool, true, false}
 use mathlib.Core.Option.{Option, none, some}
 use Prim.Native.Nat.{ℕ, _≤_, _<_}
-use Rattle.plans.specs.Bound.{localDeadline}
-use Rattle.plans.specs.Leaves.{Moderate}
+use Rattle.bounds.specs.Bound.{localDeadline}
+use Rattle.bounds.specs.Leaves.{Moderate}
 use Rattle.plans.specs.Pieces.{taskOf, pieceOf}
-use Rattle.plans.specs.Shape.{isShare}
+use Rattle.shapes.specs.Shape.{isShare}
 use Rattle.plans.specs.declared.Plan.{Plan}
 use Rattle.layout.specs.Whole.{put, wholePiece}
 use Rattle.layout.specs.declared.Draft.{Draft}

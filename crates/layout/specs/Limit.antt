@@ -2,7 +2,7 @@
 use mathlib.Core.Bool.{cond}
 use Prim.Native.Nat.{ℕ, zero, suc, _-_, _/_, min}
 use lib.Dec.{eqb}
-use Rattle.plans.specs.Bound.{localDeadline, bound}
+use Rattle.bounds.specs.Bound.{localDeadline, bound}
 use Rattle.plans.specs.Interference.{periods}
 use Rattle.plans.specs.Pieces.{taskOf, pieceOf}
 use Rattle.plans.specs.declared.Plan.{Plan}

@@ -6,9 +6,9 @@ use lib.Dec.{leb, eqb}
 use lib.ListN.{getD, set}
 use Rattle.tasks.specs.Below.{all}
 use Rattle.tasks.specs.Tables.{taskNo, coreNo}
-use Rattle.plans.specs.Bound.{localDeadline, bound}
+use Rattle.bounds.specs.Bound.{localDeadline, bound}
 use Rattle.plans.specs.Pieces.{taskOf, pieceOf}
-use Rattle.plans.specs.Shape.{isShare}
+use Rattle.shapes.specs.Shape.{isShare}
 use Rattle.plans.specs.declared.Kind.the-variants.{Whole}
 use Rattle.plans.specs.declared.Piece.{Piece}
 use Rattle.plans.specs.declared.Plan.{Plan}

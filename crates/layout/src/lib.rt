@@ -4,9 +4,9 @@ ghost use mathlib.Core.Bool.{not, _&&_};
 ghost use Prim.Native.Nat.{_≤_, _<_, min};
 ghost use lib.Dec.{eqb};
 ghost use Rattle.tasks.specs.Below.{all, first};
-ghost use Rattle.plans.specs.Leaves.{Moderate};
+ghost use Rattle.bounds.specs.Leaves.{Moderate};
 ghost use Rattle.plans.specs.Pieces.{taskOf};
-ghost use Rattle.plans.specs.Shape.{isShare};
+ghost use Rattle.shapes.specs.Shape.{isShare};
 ghost use Rattle.layout.specs.Layout as layouts;
 ghost use Rattle.layout.specs.Layout.{noPlan, start, layFirst, outcome};
 ghost use Rattle.layout.specs.Limit as limits;
@@ -85,7 +85,7 @@ fn all_keep(plan: Plan, x: usize) -> bool
         for j in 0..n {
             let z = plan.pieces[j];
             let k = z.task.index();
-            load += plans::pressure(z, plan.tasks[k], b, d, d);
+            load += bounds::pressure(z, plan.tasks[k], b, d, d);
         }
         if d < b.cost + load {
             return false;
@@ -99,7 +99,7 @@ fn allowance(plan: Plan, p: u32, q: usize) -> u32
     requires { ⌜ (0 < p) × (p ≤ 1000000) × (q < plan .placed) × Moderate plan ⌝ }
     ensures { λ r. ⌜ (r ≡ limits.allowance plan p q) × (r ≤ 1000000) ⌝ }
 {
-    let b = plans::bound_of(plan, q);
+    let b = bounds::bound_of(plan, q);
     if b.deadline <= b.bound {
         return 0;
     }

@@ -9,11 +9,12 @@ use Rattle.tasks.specs.declared.Answer.{Answer}
 use Rattle.tasks.specs.declared.Answer.the-variants.{Accepted, Refused}
 use Rattle.tasks.specs.declared.Refusal.{Refusal}
 use Rattle.tasks.specs.declared.Refusal.the-variants.{NoPlanShape}
-use Rattle.plans.specs.Leaves.{Moderate}
+use Rattle.bounds.specs.Leaves.{Moderate}
 use Rattle.plans.specs.Pieces.{taskOf, pieceOf, earlier}
-use Rattle.plans.specs.Shape.{checkedPlan}
+use Rattle.shapes.specs.Shape.{checkedPlan}
 use Rattle.plans.specs.declared.Plan.{Plan}
-use Rattle.plans.proofs.InShape.{GoodPlan, accepted-plan, plan-moderate, earlier-within, fits}
+use Rattle.shapes.proofs.InShape.{GoodPlan, accepted-plan, earlier-within, fits}
+use Rattle.bounds.proofs.Accepted.{plan-moderate}
 use Rattle.lending.specs.Adding.{askedOf, begun, beginOf}
 
 clashing : {A : Type 0} {r : Refusal} → _≡_ {A = Answer} (Refused r) Accepted → A

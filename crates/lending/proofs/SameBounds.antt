@@ -10,16 +10,17 @@ use Rattle.tasks.specs.declared.Answer.the-variants.{Accepted, Refused}
 use Rattle.tasks.specs.declared.Table.{Table}
 use Rattle.tasks.specs.declared.Task.{Task}
 use Rattle.tasks.proofs.Below.{sum-same}
-use Rattle.plans.specs.Asking.{boundAsked}
-use Rattle.plans.specs.Bound.{localDeadline, load, bound}
+use Rattle.bounds.specs.Asking.{boundAsked}
+use Rattle.bounds.specs.Bound.{localDeadline, load, bound}
 use Rattle.plans.specs.Interference.{interference}
 use Rattle.plans.specs.Pieces.{taskOf, pieceOf, SamePlan}
 use Rattle.plans.specs.Rank.{above}
-use Rattle.plans.specs.Shape.{checkedPlan}
+use Rattle.shapes.specs.Shape.{checkedPlan}
 use Rattle.plans.specs.declared.Piece.{Piece}
 use Rattle.plans.specs.declared.Plan.{Plan}
-use Rattle.plans.proofs.InShape.{accepted-plan, fits, asked-refused, asked-past, asked-known}
-use Rattle.dispatch.proofs.SamePlans.{costs-same, checked-same}
+use Rattle.shapes.proofs.InShape.{accepted-plan, fits}
+use Rattle.bounds.proofs.Accepted.{asked-refused, asked-past, asked-known}
+use Rattle.shapes.proofs.SamePlans.{costs-same, checked-same}
 use Rattle.lending.specs.Lent.{lentPlan, boundLent}
 
 -- the interference of the pieces ranked above b is the same where the first n pieces are

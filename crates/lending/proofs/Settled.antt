@@ -4,7 +4,7 @@ use mathlib.Core.Path.{_≡_}
 use Prim.Native.Nat.{ℕ}
 use Rattle.tasks.specs.declared.Table.{Table}
 use Rattle.tasks.proofs.Settling.{settled}
-use Rattle.plans.specs.declared.Bounding.{Bounding}
+use Rattle.bounds.specs.declared.Bounding.{Bounding}
 use Rattle.plans.specs.declared.Piece.{Piece}
 use Rattle.lending.specs.Lent.{boundLent}
 

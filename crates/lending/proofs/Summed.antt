@@ -11,15 +11,16 @@ use Rattle.tasks.specs.Below.{sum}
 use Rattle.tasks.specs.declared.Answer.{Answer}
 use Rattle.tasks.specs.declared.Answer.the-variants.{Accepted, Refused}
 use Rattle.tasks.specs.declared.Table.{Table}
-use Rattle.plans.specs.Asking.{unlessRefused, boundAsked}
-use Rattle.plans.specs.Bound.{localDeadline, load, bound, margin}
-use Rattle.plans.specs.Leaves.{Moderate}
+use Rattle.bounds.specs.Asking.{unlessRefused, boundAsked}
+use Rattle.bounds.specs.Bound.{localDeadline, load, bound}
+use Rattle.plans.specs.Margins.{margin}
+use Rattle.bounds.specs.Leaves.{Moderate}
 use Rattle.plans.specs.Pieces.{taskOf, pieceOf, SamePlan}
-use Rattle.plans.specs.Shape.{checkedPlan}
-use Rattle.plans.specs.declared.Bounding.the-variants as bounding
+use Rattle.shapes.specs.Shape.{checkedPlan}
+use Rattle.bounds.specs.declared.Bounding.the-variants as bounding
 use Rattle.plans.specs.declared.Piece.{Piece}
 use Rattle.plans.specs.declared.Plan.{Plan}
-use Rattle.plans.proofs.Sums.{load-none, load-small, local-small}
+use Rattle.bounds.proofs.Sums.{load-none, load-small, local-small}
 use Rattle.lending.specs.Adding.{lentPiece, upTo, askedOf, begun, beginOf, taskIn, pressureOn, added, Bearable, boundingOf}
 use Rattle.lending.specs.Lent.{lentPlan, boundLent}
 use Rattle.lending.specs.declared.Adding.{Adding}

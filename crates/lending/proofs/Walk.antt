@@ -44,8 +44,8 @@ use denote.Triple.Walked.{says, needs, Stays, stay-none, stay-none-slice, walkOf
 use Rattle.plans.specs.declared.Piece.{Piece}
 use Rattle.tasks.proofs.Table as T
 use Rattle.tasks.proofs.Table.Laws as T′
-use Rattle.plans.proofs.Bounding as B
-use Rattle.plans.proofs.Bounding.Laws as B′
+use Rattle.bounds.proofs.Bounding as B
+use Rattle.bounds.proofs.Bounding.Laws as B′
 use Rattle.plans.proofs.Piece as Z
 use Rattle.plans.proofs.Piece.Laws as Z′
 use Rattle.board.proofs.Walk.{Held, struct, passes, answers, beside, turned, still, word, one-more, holds, fails}

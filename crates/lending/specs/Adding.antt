@@ -10,14 +10,15 @@ use Rattle.tasks.specs.declared.Answer.the-variants.{Accepted, Refused}
 use Rattle.tasks.specs.declared.Refusal.the-variants.{NoPlanShape}
 use Rattle.tasks.specs.declared.Table.{Table}
 use Rattle.tasks.specs.declared.Task.{Task}
-use Rattle.plans.specs.Bound.{localDeadline, margin}
+use Rattle.bounds.specs.Bound.{localDeadline}
+use Rattle.plans.specs.Margins.{margin}
 use Rattle.plans.specs.Interference.{interference}
 use Rattle.plans.specs.Pieces.{noPiece, taskOf, pieceOf}
 use Rattle.plans.specs.Rank.{above}
-use Rattle.plans.specs.Shape.{checkedPlan}
-use Rattle.plans.specs.declared.Bounding.{Bounding}
-use Rattle.plans.specs.declared.Bounding.the-variants.{Known}
-use Rattle.plans.specs.declared.Bounding.the-variants as bounding
+use Rattle.shapes.specs.Shape.{checkedPlan}
+use Rattle.bounds.specs.declared.Bounding.{Bounding}
+use Rattle.bounds.specs.declared.Bounding.the-variants.{Known}
+use Rattle.bounds.specs.declared.Bounding.the-variants as bounding
 use Rattle.plans.specs.declared.Piece.{Piece}
 use Rattle.plans.specs.declared.Plan.{Plan}
 use Rattle.lending.specs.declared.Adding.{Adding}

@@ -3,8 +3,8 @@ use mathlib.Core.List.{List}
 use Prim.Native.Nat.{ℕ}
 use lib.ListN.{length}
 use Rattle.tasks.specs.declared.Table.{Table}
-use Rattle.plans.specs.Asking.{boundAsked}
-use Rattle.plans.specs.declared.Bounding.{Bounding}
+use Rattle.bounds.specs.Asking.{boundAsked}
+use Rattle.bounds.specs.declared.Bounding.{Bounding}
 use Rattle.plans.specs.declared.Piece.{Piece}
 use Rattle.plans.specs.declared.Plan.{Plan}
 

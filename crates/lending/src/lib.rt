@@ -5,7 +5,7 @@ ghost use lib.ListN.{length};
 ghost use Rattle.plans.specs.Pieces.{noPiece};
 ghost use Rattle.lending.specs.Adding.{lentPiece, upTo, unplacedOf, placedOn, askedOf, beginOf, added, Bearable, boundingOf};
 ghost use Rattle.lending.specs.Lent.{boundLent};
-use plans::Bounding;
+use bounds::Bounding;
 use plans::Kind;
 use plans::Piece;
 use plans::Plan;
@@ -70,7 +70,7 @@ fn place(mut plan: Plan, piece: Piece) -> Plan
 fn asked(plan: Plan, q: usize) -> Answer
     ensures { λ r. ⌜ r ≡ askedOf plan q ⌝ }
 {
-    let answer = plans::check_plan(plan);
+    let answer = shapes::check_plan(plan);
     match answer {
         Answer::Refused(_) => answer,
         Answer::Accepted => {
@@ -104,7 +104,7 @@ fn begin(plan: Plan, q: usize) -> Adding
         Answer::Accepted => {
             let piece = plan.pieces[q];
             let i = piece.task.index();
-            let deadline = tasks[i].deadline - plans::earlier(plan, q);
+            let deadline = tasks[i].deadline - bounds::earlier(plan, q);
             Adding {
                 answer,
                 reach: plan.placed,
@@ -133,7 +133,7 @@ fn add(mut adding: Adding, piece: Piece) -> Adding
     let i = held.task.index();
     let k = piece.task.index();
     let deadline = adding.tasks[i].deadline;
-    adding.bound += plans::pressure(piece, adding.tasks[k], held, deadline, adding.deadline);
+    adding.bound += bounds::pressure(piece, adding.tasks[k], held, deadline, adding.deadline);
     adding
 }
 

@@ -1,7 +1,7 @@
 // A case that lends a list: document 01's listing for two cores and (6,10,10) three times. It prints each piece's bound, then a piece past the list and a list without the plan shape.
 ghost use mathlib.Core.Path.{_≡_};
 ghost use Rattle.lending.specs.Lent.{boundLent};
-use plans::Bounding;
+use bounds::Bounding;
 use plans::Kind;
 use plans::Margin;
 use plans::Piece;

@@ -1,6 +1,4 @@
 pub mod Interference
 pub mod Rank
-pub mod Sums
-pub mod Shaped
-pub mod InShape
+pub mod Costs
 pub mod Settled

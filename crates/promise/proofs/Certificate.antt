@@ -4,9 +4,9 @@ use mathlib.Core.Bool.{true}
 use mathlib.Core.List.{List}
 use Prim.Native.Nat.{ℕ, _+_, _<_}
 use Rattle.tasks.specs.declared.Answer.the-variants.{Accepted}
-use Rattle.plans.proofs.InShape.{accepted-plan}
+use Rattle.shapes.proofs.InShape.{accepted-plan}
 use Rattle.plans.specs.Pieces.{pieceOf, earlier}
-use Rattle.plans.specs.Shape.{isLast, checkedPlan}
+use Rattle.shapes.specs.Shape.{isLast, checkedPlan}
 use Rattle.plans.specs.declared.Plan.{Plan}
 use Rattle.dispatch.specs.Jobs.{jobOf}
 use Rattle.promise.specs.Certificate.{Certificate}

@@ -8,7 +8,7 @@ use native.Mathlib.Omega.{arith}
 use lib.Dec.{ltb}
 use lib.ListN.{getD, replicate}
 use Rattle.tasks.proofs.Bools.{clash}
-use Rattle.plans.proofs.InShape.{GoodPlan, accepted-plan}
+use Rattle.shapes.proofs.InShape.{GoodPlan, accepted-plan}
 use Rattle.plans.specs.Pieces.{pieceOf}
 use Rattle.plans.specs.declared.Plan.{Plan}
 use Rattle.dispatch.specs.Jobs.{noRun, jobOf, lastOf, isActive, names}

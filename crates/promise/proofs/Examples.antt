@@ -9,11 +9,11 @@ use Rattle.tasks.specs.Tables.{taskNo, coreNo, noTask, checkedTasks}
 use Rattle.tasks.specs.declared.Answer.the-variants.{Accepted}
 use Rattle.tasks.specs.declared.Table.{Table}
 use Rattle.tasks.specs.declared.Task.{Task}
-use Rattle.plans.specs.Bound.{localDeadline, load, bound}
+use Rattle.bounds.specs.Bound.{localDeadline, load, bound}
 use Rattle.plans.specs.Interference.{interference, periods}
 use Rattle.plans.specs.Pieces.{noPiece, costs}
 use Rattle.plans.specs.Rank.{above}
-use Rattle.plans.specs.Shape.{follows, inOrder, isLast, pieceFits, shape, checkedPlan}
+use Rattle.shapes.specs.Shape.{follows, inOrder, isLast, pieceFits, shape, checkedPlan}
 use Rattle.plans.specs.declared.Kind.{Kind}
 use Rattle.plans.specs.declared.Kind.the-variants.{Whole, Share}
 use Rattle.plans.specs.declared.Piece.{Piece}

@@ -10,7 +10,7 @@ use borrow.Author.Tests.{eq-eqb, ne-eqb, eqb-true, eqb-false, ltb-false, not-fal
 use Rattle.tasks.proofs.Below.{any-found, any-make, any-none, any-same, Found}
 use Rattle.tasks.proofs.Bools.{both, both-make, clash, neither}
 use Rattle.tasks.specs.Below.{any}
-use Rattle.plans.proofs.InShape.{GoodPlan}
+use Rattle.shapes.proofs.InShape.{GoodPlan}
 use Rattle.plans.proofs.Rank.{above-core, above-one-way, above-self}
 use Rattle.plans.specs.Pieces.{taskOf, pieceOf}
 use Rattle.plans.specs.Rank.{above}

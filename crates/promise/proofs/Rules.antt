@@ -9,9 +9,9 @@ use borrow.Author.Tests.{ltb-true, eqb-true, leb-true}
 use Rattle.tasks.proofs.Below.{all-each}
 use Rattle.tasks.proofs.Bools.{both, clash}
 use Rattle.tasks.proofs.Padded.{padded-in, padded-out}
-use Rattle.plans.proofs.InShape.{GoodPlan}
+use Rattle.shapes.proofs.InShape.{GoodPlan}
 use Rattle.plans.specs.Pieces.{taskOf, pieceOf}
-use Rattle.plans.specs.Shape.{isLast}
+use Rattle.shapes.specs.Shape.{isLast}
 use Rattle.plans.specs.declared.Plan.{Plan}
 use Rattle.dispatch.specs.Jobs.{noJob, noRun, jobOf, lastOf, isActive}
 use Rattle.dispatch.specs.Rules.{eachJob, endedJob, finishedJob, turnsLate, markedJob, firstPiece, releasedJob, runsNow, ranJob, agedJob, chosen, highest, finish, markLate, release, run, age, countPreempted}

@@ -13,7 +13,7 @@ use Rattle.tasks.specs.Below.{any, count}
 use Rattle.tasks.specs.declared.Answer.{Answer}
 use Rattle.tasks.specs.declared.Answer.the-variants.{Accepted, Refused}
 use Rattle.tasks.specs.declared.Refusal.{Refusal}
-use Rattle.plans.proofs.InShape.{GoodPlan}
+use Rattle.shapes.proofs.InShape.{GoodPlan}
 use Rattle.plans.specs.Pieces.{taskOf, pieceOf}
 use Rattle.plans.specs.declared.Plan.{Plan}
 use Rattle.dispatch.specs.Jobs.{noJob, noRun, jobOf, names, freshState}

@@ -5,11 +5,11 @@ use Prim.Native.Nat.{ℕ, suc, _+_, _≤_, _<_}
 use native.Mathlib.Omega.{arith}
 use borrow.Author.Tests.{eq-eqb}
 use Rattle.tasks.proofs.Below.{first-le}
-use Rattle.plans.proofs.InShape.{GoodPlan, fits, follower, earlier-within, Begins, begins}
-use Rattle.plans.proofs.Shaped.{Fits}
-use Rattle.plans.proofs.Sums.{costs-own}
+use Rattle.shapes.proofs.InShape.{GoodPlan, fits, follower, earlier-within, Begins, begins}
+use Rattle.shapes.proofs.Shaped.{Fits}
+use Rattle.plans.proofs.Costs.{costs-own}
 use Rattle.plans.specs.Pieces.{taskOf, pieceOf, costs}
-use Rattle.plans.specs.Shape.{isLast}
+use Rattle.shapes.specs.Shape.{isLast}
 use Rattle.plans.specs.declared.Plan.{Plan}
 use Rattle.dispatch.specs.Rules.{firstPiece}
 use Rattle.promise.specs.Model.{Sound}

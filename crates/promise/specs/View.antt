@@ -4,7 +4,7 @@ use Prim.Native.Nat.{ℕ}
 use Rattle.tasks.specs.Below.{any}
 use Rattle.plans.specs.Pieces.{taskOf, pieceOf, earlier}
 use Rattle.plans.specs.Rank.{above}
-use Rattle.plans.specs.Shape.{isLast}
+use Rattle.shapes.specs.Shape.{isLast}
 use Rattle.plans.specs.declared.Plan.{Plan}
 use Rattle.dispatch.specs.Jobs.{jobOf, lastOf, names}
 use Rattle.dispatch.specs.Rules.{firstPiece}

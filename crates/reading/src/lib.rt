@@ -435,7 +435,7 @@ fn plan_ended(f: Field, plan: Plan) -> Answer
     if f.misshapen {
         return Answer::Refused(Refusal::NoPlanShape);
     }
-    plans::check_plan(plan)
+    shapes::check_plan(plan)
 }
 
 // Ends the reading of a plan file.

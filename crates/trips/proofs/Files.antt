@@ -17,7 +17,7 @@ use Rattle.tasks.specs.declared.Refusal.{Refusal}
 use Rattle.tasks.specs.declared.Refusal.the-variants.{NoPlanShape}
 use Rattle.tasks.specs.declared.Table.{Table}
 use Rattle.plans.specs.Pieces.{noPiece, taskOf, pieceOf}
-use Rattle.plans.specs.Shape.{checkedPlan, shape}
+use Rattle.shapes.specs.Shape.{checkedPlan, shape}
 use Rattle.plans.specs.declared.Plan.{Plan}
 use Rattle.writing.specs.Fields.{coreField, taskField, row, tasksBytes, tableBytes, planBytes}
 use Rattle.reading.specs.Reading.{defaultCores, fieldAt, read, begun, emptyPlan, endedAfter, planEnded, tableAnswered, planAnswered, tableClosed, tableRead, planClosed, planRead}

@@ -12,9 +12,9 @@ use Rattle.tasks.specs.declared.Answer.{Answer}
 use Rattle.tasks.specs.declared.Answer.the-variants.{Accepted, Refused}
 use Rattle.tasks.specs.declared.Refusal.{Refusal}
 use Rattle.tasks.specs.declared.Task.{Task}
-use Rattle.plans.proofs.InShape.{GoodPlan}
-use Rattle.plans.proofs.Shaped.{shape-accepted}
-use Rattle.plans.specs.Shape.{checkedPlan}
+use Rattle.shapes.proofs.InShape.{GoodPlan}
+use Rattle.shapes.proofs.Shaped.{shape-accepted}
+use Rattle.shapes.specs.Shape.{checkedPlan}
 use Rattle.plans.specs.declared.Plan.{Plan}
 
 pub accepted-not-refused : {X : Type 0} {a : Answer} {x : Refusal} → a ≡ Accepted → a ≡ Refused x → X

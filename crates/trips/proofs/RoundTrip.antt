@@ -15,8 +15,8 @@ use Rattle.tasks.specs.declared.Answer.the-variants.{Accepted}
 use Rattle.tasks.specs.declared.Task.{Task}
 use Rattle.tasks.specs.declared.Table.{Table}
 use Rattle.plans.specs.Pieces.{noPiece, taskOf, pieceOf, SamePlan, CleanPlan}
-use Rattle.plans.proofs.InShape.{GoodPlan, accepted-plan, tests}
-use Rattle.plans.specs.Shape.{checkedPlan}
+use Rattle.shapes.proofs.InShape.{GoodPlan, accepted-plan, tests}
+use Rattle.shapes.specs.Shape.{checkedPlan}
 use Rattle.plans.specs.declared.Piece.{Piece}
 use Rattle.plans.specs.declared.Plan.{Plan}
 use Rattle.writing.specs.Fields.{coreField, taskField, pieceField, row, tasksBytes, tableBytes, planBytes}

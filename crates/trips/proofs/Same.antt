@@ -10,10 +10,10 @@ use Rattle.tasks.proofs.Below.{all-make, sum-same}
 use Rattle.tasks.proofs.Bools.{both-make}
 use Rattle.tasks.proofs.Tables.{Ranges, GoodTable}
 use Rattle.tasks.specs.declared.Task.{Task}
-use Rattle.plans.proofs.InShape.{GoodPlan, tests, fits, earlier-within}
-use Rattle.plans.proofs.Shaped.{fits-say}
+use Rattle.shapes.proofs.InShape.{GoodPlan, tests, fits, earlier-within}
+use Rattle.shapes.proofs.Shaped.{fits-say}
 use Rattle.plans.specs.Pieces.{taskOf, pieceOf, costs}
-use Rattle.plans.specs.Shape.{sameTask, inOrder, isLast, pieceFits, shape}
+use Rattle.shapes.specs.Shape.{sameTask, inOrder, isLast, pieceFits, shape}
 use Rattle.plans.specs.declared.Piece.{Piece}
 use Rattle.plans.specs.declared.Plan.{Plan}
 

@@ -9,7 +9,7 @@ use lib.ListN.{length, getD, take, drop}
 use lib.Seq.{take-at}
 use borrow.Author.Tests.{eq-eqb}
 use Rattle.tasks.specs.Tables.{checkedTable}
-use Rattle.plans.specs.Shape.{checkedPlan}
+use Rattle.shapes.specs.Shape.{checkedPlan}
 use Rattle.tasks.specs.declared.Answer.{Answer}
 use Rattle.tasks.specs.declared.Answer.the-variants.{Accepted, Refused}
 use Rattle.tasks.specs.declared.Refusal.the-variants.{BufferShort}

@@ -152,7 +152,7 @@ fn put_plan(out: &mut [u8], plan: Plan) -> usize
 pub fn write_plan(plan: Plan, out: &mut [u8]) -> Written
     ensures { λ r. ⌜ (r ≡ planWritten plan (now (out .entry))) × (now (out .exit) ≡ planFilled plan (now (out .entry))) ⌝ }
 {
-    let answer = plans::check_plan(plan);
+    let answer = shapes::check_plan(plan);
     if let Answer::Refused(refusal) = answer {
         return Written::Refused(refusal);
     }

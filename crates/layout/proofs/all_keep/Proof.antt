@@ -7,8 +7,8 @@ use lib.Dec.{leb}
 use borrow.Author.Tests.{le-leb, lt-leb, not-true, not-false}
 use Rattle.tasks.specs.Below.{all}
 use Rattle.tasks.proofs.Below.{all-more, all-fails}
-use Rattle.plans.proofs.Sums.{load-none, load-turn, load-small}
-use Rattle.plans.specs.Bound as bounds
+use Rattle.bounds.proofs.Sums.{load-none, load-turn, load-small}
+use Rattle.bounds.specs.Bound as bounds
 use Rattle.plans.specs.Interference.{interference}
 use Rattle.plans.specs.Pieces.{taskOf, pieceOf}
 use Rattle.plans.specs.Rank.{above}

@@ -3,8 +3,8 @@ use Prim.Native.Nat.{ℕ, _+_, _-_, _/_, _≤_, _<_}
 use mathlib.Core.Path.{_≡_, sym, ap, _∙_}
 use native.Mathlib.Nat.{div-le-self, le-trans}
 use Rattle.plans.proofs.Interference.{some-period}
-use Rattle.plans.proofs.Sums.{local-small}
-use Rattle.plans.specs.Bound.{localDeadline, bound}
+use Rattle.bounds.proofs.Sums.{local-small}
+use Rattle.bounds.specs.Bound.{localDeadline, bound}
 use Rattle.plans.specs.Interference.{periods}
 use Rattle.plans.specs.Pieces.{taskOf, pieceOf}
 use Rattle.layout.specs.Limit.{allowance}
@@ -14,7 +14,7 @@ use Rattle.layout.proofs.allowance.Statement.{statement}
 use Rattle.layout.proofs.allowance.Tie as tie
 use Rattle.layout.proofs.allowance.Reads as reads
 use Rattle.layout.proofs.allowance.Lts as lts
-use Rattle.plans.proofs.bound_of.Reads as bound-of-reads
+use Rattle.bounds.proofs.bound_of.Reads as bound-of-reads
 
 -- src/lib.rt:83:9
 bound-of-requires : tie.Need-bound-of-requires

@@ -8,7 +8,7 @@ use lib.ListN.{length, length-map}
 use borrow.Author.Count.{below-more}
 use Rattle.tasks.specs.Below.{all}
 use Rattle.tasks.proofs.Below.{any-none, first-is, first-none}
-use Rattle.plans.specs.Leaves.{Moderate}
+use Rattle.bounds.specs.Leaves.{Moderate}
 use Rattle.plans.specs.declared.Piece.{Piece}
 use Rattle.plans.specs.declared.Plan.{Plan}
 use Rattle.layout.specs.Asked.{OwnDeadlines}

@@ -7,7 +7,7 @@ use Rattle.lending.proofs.add.Statement.{statement}
 use Rattle.lending.proofs.add.Tie as tie
 use Rattle.lending.proofs.add.Reads as reads
 use Rattle.lending.proofs.add.Lts as lts
-use Rattle.plans.proofs.pressure.Reads as pressure-reads
+use Rattle.bounds.proofs.pressure.Reads as pressure-reads
 use Rattle.tasks.proofs.TaskNo.index.Reads as index-reads
 
 -- what is added is the interference of the piece

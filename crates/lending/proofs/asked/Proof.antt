@@ -5,7 +5,7 @@ use Rattle.lending.proofs.asked.Statement.{statement}
 use Rattle.lending.proofs.asked.Tie as tie
 use Rattle.lending.proofs.asked.Reads as reads
 use Rattle.lending.proofs.asked.Lts as lts
-use Rattle.plans.proofs.check_plan.Reads as check-plan-reads
+use Rattle.shapes.proofs.check_plan.Reads as check-plan-reads
 
 -- src/lib.rt:111:9
 check-plan-requires : tie.Need-check-plan-requires

@@ -1,6 +1,6 @@
 use native.Mathlib.Omega.{arith}
 use mathlib.Core.Path.{sym, _∙_}
-use Rattle.plans.specs.Bound.{localDeadline}
+use Rattle.bounds.specs.Bound.{localDeadline}
 use Rattle.lending.proofs.Begun.{begun-by, asked-moderate, asked-place, spent-within}
 use borrow.Author.Needs.{needs}
 use Rattle.lending.proofs.begin.Statement.{statement}
@@ -9,7 +9,7 @@ use Rattle.lending.proofs.begin.Reads as reads
 use Rattle.lending.proofs.begin.Lts as lts
 use Rattle.lending.proofs.asked.Reads as asked-reads
 use Rattle.lending.proofs.no_piece.Reads as no-piece-reads
-use Rattle.plans.proofs.earlier.Reads as earlier-reads
+use Rattle.bounds.proofs.earlier.Reads as earlier-reads
 use Rattle.tasks.proofs.TaskNo.index.Reads as index-reads
 
 -- src/lib.rt:128:9

@@ -31,7 +31,7 @@ use denote.Triple.Spec.{tripleOf}
 use denote.Triple.Statement.{Contract, Triple}
 use denote.Triple.Table.{entered, cited}
 use Rattle.tasks.specs.declared.Table.{Table}
-use Rattle.plans.specs.declared.Bounding.{Bounding}
+use Rattle.bounds.specs.declared.Bounding.{Bounding}
 use Rattle.plans.specs.declared.Piece.{Piece}
 use Rattle.plans.specs.declared.Plan.{Plan}
 use Rattle.lending.specs.Adding.{lentPiece, upTo, unplacedOf, placedOn, beginOf, added, Bearable, boundingOf}

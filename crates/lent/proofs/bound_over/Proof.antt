@@ -44,7 +44,7 @@ use denote.Triple.Statement.{Contract, Triple}
 use denote.Triple.Table.{entered, cited}
 use denote.Triple.Walked.{says, Stays, stay-none, walkOf, AllGo, goes-none, Walks, ends-at, walked, walk-meets}
 use Rattle.tasks.specs.declared.Table.{Table}
-use Rattle.plans.specs.declared.Bounding.{Bounding}
+use Rattle.bounds.specs.declared.Bounding.{Bounding}
 use Rattle.plans.specs.declared.Piece.{Piece}
 use Rattle.plans.proofs.Piece as Z
 use Rattle.plans.proofs.Piece.Laws as Z′

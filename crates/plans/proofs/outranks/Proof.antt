@@ -3,64 +3,47 @@ use borrow.Author.Tests.{lt-ltb, le-ltb, eq-eqb, ne-eqb}
 use borrow.Author.Needs.{needs}
 use Rattle.plans.proofs.outranks.Statement.{statement}
 use Rattle.plans.proofs.outranks.Tie as tie
-use Rattle.plans.proofs.outranks.Reads as reads
-use Rattle.plans.proofs.outranks.Lts as lts
-use Rattle.tasks.proofs.TaskNo.index.Reads as index-reads
 
--- src/lib.rt:57:9
 index-requires : tie.Need-index-requires
 index-requires c κs = search needs
 
--- src/lib.rt:58:9
 index-requires-2 : tie.Need-index-requires-2
 index-requires-2 c κs = search needs
 
--- src/lib.rt:60:24
 enum-told : tie.Need-enum-told
 enum-told c = search needs
 
--- src/lib.rt:61:28
 enum-told-2 : tie.Need-enum-told-2
 enum-told-2 c = search needs
 
--- src/lib.rt:62:28
 enum-told-3 : tie.Need-enum-told-3
 enum-told-3 c = search needs
 
--- src/lib.rt:64:24
 enum-told-4 : tie.Need-enum-told-4
 enum-told-4 c = search needs
 
--- src/lib.rt:65:28
 enum-told-5 : tie.Need-enum-told-5
 enum-told-5 c = search needs
 
--- src/lib.rt:67:20
 enum-told-6 : tie.Need-enum-told-6
 enum-told-6 c = search needs
 
--- src/lib.rt:68:21
 returns : tie.Need-returns
 returns c = simp (c .before .before .before .enum-told4 .given .1, c .before .enum-told6 .given .1, lt-ltb _ _ (c .if1 .taken))
 
--- src/lib.rt:71:21
 returns-2 : tie.Need-returns-2
 returns-2 c = let a = c .before .before .before .before .before .before .before .before .args in
     simp (c .before .before .before .before .enum-told4 .given .1, c .before .before .enum-told6 .given .1, le-ltb _ _ (c .before .if1 .left), ne-eqb (a .a-deadline) (a .b-deadline) (λ e. omega arith))
 
--- src/lib.rt:52:1
 returns-3 : tie.Need-returns-3
 returns-3 c = simp (c .before .before .enum-told .given .1, c .enum-told2 .given .1, c .before .before .before .before .before .index .ensures .0, c .before .before .before .before .index2 .ensures .0)
 
--- src/lib.rt:52:1
 returns-4 : tie.Need-returns-4
 returns-4 c = search needs
 
--- src/lib.rt:52:1
 returns-5 : tie.Need-returns-5
 returns-5 c = search needs
 
--- src/lib.rt:52:1
 returns-6 : tie.Need-returns-6
 returns-6 c = let a = c .before .before .before .before .before .before .before .before .args in
     simp (c .before .before .before .before .enum-told4 .given .1, c .before .before .enum-told6 .given .1, le-ltb _ _ (c .before .if1 .left), eq-eqb (a .a-deadline) (a .b-deadline) (omega arith), c .before .before .before .before .before .before .index2 .ensures .0, c .before .before .before .before .before .before .before .index .ensures .0)

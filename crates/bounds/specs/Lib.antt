@@ -1,0 +1,4 @@
+pub mod Bound
+pub mod Asking
+pub mod Certificate
+pub mod Leaves

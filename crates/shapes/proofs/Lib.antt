@@ -1,0 +1,4 @@
+pub mod Shaped
+pub mod InShape
+pub mod SamePlans
+pub mod Settled
