@@ -2,9 +2,9 @@
 use mathlib.Core.Bool.{Bool, true, false, not, _&&_, _||_, cond}
 use mathlib.Core.List.{List, [], _∷_}
 use mathlib.Core.Option.{Option, none, some}
-use Prim.Native.Nat.{ℕ, zero, suc, _+_, _/_}
+use Prim.Native.Nat.{ℕ, zero, suc, _/_}
 use lib.Dec.{leb, eqb}
-use lib.ListN.{length, getD, take, replicate}
+use lib.ListN.{length, getD, replicate}
 use Rattle.tasks.specs.Below.{tabulate}
 use Rattle.tasks.specs.Refusals.{Told, place, task, given, needed, nothing, number, tells}
 use Rattle.tasks.specs.Tables.{noTask, taskNo}
@@ -24,7 +24,6 @@ use Rattle.dispatch.specs.Jobs.{jobOf, lastOf, isActive, onceReleased, byRunner
 use Rattle.dispatch.specs.Tick.{tick}
 use Rattle.dispatch.specs.declared.State.{State}
 use Rattle.dispatch.specs.declared.Tasks.{Tasks}
-use Rattle.dispatch.specs.declared.Ticked.{Ticked}
 
 -- (c, d, p)
 abbrev pub timed : ℕ → ℕ → ℕ → Task

@@ -22,7 +22,7 @@ use Rattle.plans.specs.Pieces.{taskOf, pieceOf, CleanPlan}
 use Rattle.shapes.specs.Shape.{checkedPlan}
 use Rattle.layout.specs.Layout.{start, layFirst, Laying, laid, stuck, planned}
 use Rattle.layout.specs.declared.Draft.{Draft}
-use Rattle.layout.proofs.Drafts.{Ready, drafted-room, start-task}
+use Rattle.layout.proofs.Drafts.{LaidBefore, drafted-room, start-task}
 use Rattle.layout.proofs.Keeps.{Keeps, lay-keeps}
 use Rattle.layout.proofs.Reached.{lay-ready, lay-few}
 use Rattle.layout.proofs.Shape.{laid-shape}
@@ -35,7 +35,7 @@ good-accepted m n ts g = all-good m n ts (both-make (le-leb 1 m (g .cores .0)) (
     fits t r = sym (values-last t (r .some) (r .short) (r .inside)) ∙ le-leb (t .period) 1000000 (r .most)
 
 -- a draft in which every task is laid out has the plan shape
-complete-shape : (d : Draft) → Ready (d .plan .count) d → checkedPlan (d .plan) ≡ Accepted
+complete-shape : (d : Draft) → LaidBefore (d .plan .count) d → checkedPlan (d .plan) ≡ Accepted
 complete-shape d R = shape-accepted (d .plan) (good-accepted _ _ _ (R .good)) (laid-shape _ _ _ _ _ _ _ (R .laid) (R .good .tasks .0) (omega (arith, drafted-room _ _ 0 d R (le-refl _))))
 
 -- an accepted table is good, and its plan is that of the draft in which all its tasks are laid out
@@ -61,7 +61,7 @@ module _ (t : Table) (accepted : planned t .answer ≡ Accepted) where
   planning : Planning t
   planning = accepted-planning t accepted
 
-  all-laid : Ready (t .count) (planning .draft)
+  all-laid : LaidBefore (t .count) (planning .draft)
   all-laid = lay-ready t (planning .good) (t .count) (le-refl _) (planning .draft) (planning .lays)
 
   kept : Keeps (start t .plan) (planning .draft .plan)
@@ -94,7 +94,7 @@ module _ (t : Table) (accepted : planned t .answer ≡ Accepted) where
   -- it is a good table's plan and has the plan shape
   pub planned-shape : checkedPlan (planned t .plan) ≡ Accepted
   unfolding start
-  planned-shape = rw (planning .plan) (complete-shape (planning .draft) (subst (λ (n : ℕ). Ready n (planning .draft)) (sym (kept .count)) all-laid))
+  planned-shape = rw (planning .plan) (complete-shape (planning .draft) (subst (λ (n : ℕ). LaidBefore n (planning .draft)) (sym (kept .count)) all-laid))
 
   -- every piece's bound is within its local deadline
   pub planned-within : (q : ℕ) → q < planned t .plan .placed → bound (taskOf (planned t .plan)) (pieceOf (planned t .plan)) (planned t .plan .placed) q ≤ localDeadline (taskOf (planned t .plan)) (pieceOf (planned t .plan)) q

@@ -27,7 +27,7 @@ use Rattle.layout.specs.Layout.{start}
 use Rattle.layout.specs.Whole.{put, wholePiece, isClosed}
 use Rattle.layout.specs.declared.Draft.{Draft}
 use Rattle.layout.proofs.Laid.{Laid, laid-start, openCores}
-use Rattle.layout.proofs.More.{costs-kept}
+use Rattle.shapes.proofs.SamePlans.{costs-same}
 use Rattle.layout.proofs.Put.{put-length, put-old, put-new, put-past, put-each}
 
 -- the draft while task i is laid out, with `need` of its cost still to be placed on core x or above
@@ -39,8 +39,8 @@ pub record Drafted (i need x : ℕ) (d : Draft) : Type 0 where
   pub laid : Laid (d .plan .cores) (d .plan .count) (taskOf (d .plan)) (pieceOf (d .plan)) (d .plan .placed) (isClosed (d .closed)) i need x
 
 -- the draft when the tasks before i are laid out and nothing of task i is
-abbrev pub Ready : ℕ → Draft → Type 0
-Ready i d = Drafted i (taskOf (d .plan) i .cost) 0 d
+abbrev pub LaidBefore : ℕ → Draft → Type 0
+LaidBefore i d = Drafted i (taskOf (d .plan) i .cost) 0 d
 
 -- one piece more of a plan whose numbers are moderate
 pub put-moderate : (z : Piece) (w : Plan) → length (w .pieces) ≡ 128 → w .placed < 128 → Moderate w → z .task .0 < 64 → 0 < taskOf w (z .task .0) .period
@@ -111,9 +111,9 @@ module _ (i need x : ℕ) (d : Draft) (D : Drafted i need x d) where
     }
 
 -- with task i added whole, each whole piece is its task's first, so its local deadline is its task's deadline
-pub ready-alone : (i : ℕ) (d : Draft) → Ready i d → d .plan .placed < 128 → Alone (d .plan) i
+pub ready-alone : (i : ℕ) (d : Draft) → LaidBefore i d → d .plan .placed < 128 → Alone (d .plan) i
 unfolding put localDeadline
-ready-alone i d D room x q h w = omega (arith, costs-kept pc pc′ n (put-old z (d .plan)) (pc′ q .task .0) q (omega arith), none (ℕ-discrete q n))
+ready-alone i d D room x q h w = omega (arith, costs-same pc′ pc n (put-old z (d .plan)) (pc′ q .task .0) q (omega arith), none (ℕ-discrete q n))
   where
     n : ℕ
     n = d .plan .placed
@@ -150,7 +150,7 @@ module _ (t : Table) (good : checkedTable t ≡ Accepted) where
       let g : GoodTable (t .cores) (t .count) (table.taskOf t) = accepted-good (t .cores) (t .count) (table.taskOf t) good in
       record { cores = g .cores; tasks = g .tasks; values = λ i h. rw (start-task i h) (g .values i h) }
 
-  pub start-ready : Ready 0 (start t)
+  pub start-ready : LaidBefore 0 (start t)
   unfolding start openCores
   start-ready = record {
     good = start-good;

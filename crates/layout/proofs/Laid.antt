@@ -15,6 +15,7 @@ use Rattle.tasks.specs.Below as below
 use Rattle.tasks.specs.declared.Task.{Task}
 use Rattle.plans.proofs.Interference.{within-periods}
 use Rattle.plans.proofs.Rank.{above-core}
+use Rattle.shapes.proofs.SamePlans.{order-same}
 use Rattle.shapes.proofs.Shaped.{next-follows, same-follows, last-end}
 use Rattle.bounds.specs.Bound.{localDeadline, bound}
 use Rattle.plans.specs.Interference.{interference, periods}
@@ -23,7 +24,7 @@ use Rattle.plans.specs.Rank.{above}
 use Rattle.shapes.specs.Shape.{follows, inOrder, isLast}
 use Rattle.plans.specs.declared.Kind.the-variants.{Share}
 use Rattle.plans.specs.declared.Piece.{Piece}
-use Rattle.layout.proofs.More.{costs-more, order-kept, last-new, local-kept, bound-grows}
+use Rattle.layout.proofs.More.{costs-more, last-new, local-kept, bound-grows}
 
 -- how many tasks the first n pieces begin
 unfoldable pub begun : (ℕ → Piece) → ℕ → ℕ
@@ -160,7 +161,7 @@ module _ (m count : ℕ) (ts : ℕ → Task) (pc : ℕ → Piece) (n : ℕ) (shu
       where
         go : Dec (q ≡ n) → inOrder pc′ q ≡ true
         go (yes e) = rw e next-order
-        go (no e) = order-kept pc pc′ n same q (omega arith) ∙ L .order q (omega arith)
+        go (no e) = order-same pc′ pc n same q (omega arith) ∙ L .order q (omega arith)
 
     grown-begun : suc i ≤ begun pc′ (suc n)
     unfolding begun

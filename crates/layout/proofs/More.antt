@@ -2,7 +2,7 @@
 use mathlib.Core.Path.{_≡_, ap}
 use mathlib.Core.Logic.{_⊎_, inl, inr}
 use mathlib.Core.Bool.{true, false, not, _&&_, cond}
-use Prim.Native.Nat.{ℕ, zero, suc, _+_, _-_, _≤_, _<_}
+use Prim.Native.Nat.{ℕ, suc, _+_, _-_, _<_}
 use native.Mathlib.Decide.{decLt}
 use native.Mathlib.Omega.{arith}
 use lib.Dec.{ltb, eqb}
@@ -15,23 +15,15 @@ use Rattle.bounds.specs.Bound.{localDeadline, load, bound}
 use Rattle.plans.specs.Interference.{interference}
 use Rattle.plans.specs.Pieces.{costs}
 use Rattle.plans.specs.Rank.{above}
-use Rattle.shapes.specs.Shape.{sameTask, inOrder, isLast}
+use Rattle.shapes.specs.Shape.{sameTask, isLast}
+use Rattle.shapes.proofs.SamePlans.{costs-same}
 use Rattle.plans.specs.declared.Piece.{Piece}
 
 module _ (pc pc′ : ℕ → Piece) (n : ℕ) (same : (j : ℕ) → j < n → pc′ j ≡ pc j) where
-  pub costs-kept : (i j : ℕ) → j ≤ n → costs pc′ i j ≡ costs pc i j
-  unfolding costs
-  costs-kept i j h = sum-same j _ _ (λ k l. ap (λ (x : Piece). cond (eqb (x .task .0) i) (x .cost) 0) (same k (omega arith)))
-
   -- the new piece's cost is its task's
   pub costs-more : (i : ℕ) → costs pc′ i (suc n) ≡ costs pc i n + cond (eqb (pc′ n .task .0) i) (pc′ n .cost) 0
   unfolding costs sum
   costs-more i = ap (λ (x : ℕ). x + cond (eqb (pc′ n .task .0) i) (pc′ n .cost) 0) (sum-same n _ _ (λ k l. ap (λ (x : Piece). cond (eqb (x .task .0) i) (x .cost) 0) (same k l)))
-
-  pub order-kept : (j : ℕ) → j < n → inOrder pc′ j ≡ inOrder pc j
-  unfolding inOrder
-  order-kept zero h = rw (same 0 h)
-  order-kept (suc j) h = rw (same j (omega arith), same (suc j) h)
 
   -- what was not its task's last stays so, and the new piece may go on with the task of the piece before it
   pub last-new : (k : ℕ) → k < n → isLast pc′ (suc n) k ≡ false → (isLast pc n k ≡ false) ⊎ (pc k .task .0 ≡ pc′ n .task .0)
@@ -50,7 +42,7 @@ module _ (pc pc′ : ℕ → Piece) (n : ℕ) (same : (j : ℕ) → j < n → pc
   module _ (ts : ℕ → Task) where
     pub local-kept : (q : ℕ) → q < n → localDeadline ts pc′ q ≡ localDeadline ts pc q
     unfolding localDeadline
-    local-kept q h = rw (same q h) (ap (λ (x : ℕ). ts (pc q .task .0) .deadline - x) (costs-kept _ q (omega arith)))
+    local-kept q h = rw (same q h) (ap (λ (x : ℕ). ts (pc q .task .0) .deadline - x) (costs-same pc′ pc n same _ q (omega arith)))
 
     load-more : (b : Piece) (L : ℕ) → load ts pc′ (suc n) b L ≡ load ts pc n b L + cond (above ts (pc′ n) b) (interference (pc′ n .cost) (ts (pc′ n .task .0) .period) L) 0
     unfolding load sum

@@ -15,25 +15,25 @@ use Rattle.plans.specs.Pieces.{taskOf, pieceOf}
 use Rattle.layout.specs.Layout.{start, place, layFirst, laid}
 use Rattle.layout.specs.Whole.{takesWhole}
 use Rattle.layout.specs.declared.Draft.{Draft}
-use Rattle.layout.proofs.Drafts.{Ready, drafted-few, drafted-moderate, start-ready}
+use Rattle.layout.proofs.Drafts.{LaidBefore, drafted-few, drafted-moderate, start-ready}
 use Rattle.layout.proofs.Keeps.{Placed, place-whole, place-shared, lay-last, lay-keeps, laid-is}
 use Rattle.layout.proofs.Sharing.{share-ready, some-is}
 use Rattle.layout.proofs.Wholes.{whole-ready}
 
 -- a task that finds its place leaves a draft with the next task to lay out
-pub place-ready : (i : ℕ) (d v : Draft) → Ready i d → i < d .plan .count → place d i ≡ some v → Ready (suc i) v
+pub place-ready : (i : ℕ) (d v : Draft) → LaidBefore i d → i < d .plan .count → place d i ≡ some v → LaidBefore (suc i) v
 place-ready i d v R known e = go _ refl
   where
-    go : (b : Bool) → any (d .plan .cores) (takesWhole d i) ≡ b → Ready (suc i) v
+    go : (b : Bool) → any (d .plan .cores) (takesWhole d i) ≡ b → LaidBefore (suc i) v
     go true a =
         let f : (first (d .plan .cores) (takesWhole d i) < d .plan .cores) × (takesWhole d i (first (d .plan .cores) (takesWhole d i)) ≡ true) = first-holds (d .plan .cores) (takesWhole d i) a in
-        subst (Ready (suc i)) (some-is (sym (place-whole d i a) ∙ e)) (whole-ready i d R known _ (f .0) (f .1))
+        subst (LaidBefore (suc i)) (some-is (sym (place-whole d i a) ∙ e)) (whole-ready i d R known _ (f .0) (f .1))
     go false a = share-ready i (d .plan .cores) 0 (taskOf (d .plan) i .cost) d v R known (R .good .values i known .some) (omega arith) (sym (place-shared d i a) ∙ e)
 
 module _ (t : Table) (good : checkedTable t ≡ Accepted) where
-  pub lay-ready : (i : ℕ) → i ≤ t .count → (d : Draft) → layFirst (start t) i ≡ laid d → Ready i d
+  pub lay-ready : (i : ℕ) → i ≤ t .count → (d : Draft) → layFirst (start t) i ≡ laid d → LaidBefore i d
   unfolding layFirst start
-  lay-ready zero h d e = subst (Ready 0) (laid-is e) (start-ready t good)
+  lay-ready zero h d e = subst (LaidBefore 0) (laid-is e) (start-ready t good)
   lay-ready (suc i) h d e =
       let p : Placed (start t) i d = lay-last (start t) i d e in
       place-ready i (p .before) d (lay-ready i (omega arith) (p .before) (p .lays)) (omega (arith, lay-keeps (start t) i (p .before) (p .lays) .count)) (p .finds)

@@ -1,10 +1,10 @@
 -- The shared search from core to core: what is kept on the way, and what each way out of a core gives.
-use mathlib.Core.Path.{_≡_, refl, sym, ap, _∙_}
+use mathlib.Core.Path.{_≡_, refl, ap, _∙_}
 use mathlib.Core.Bool.{Bool, true, false, _||_, cond}
 use mathlib.Core.List.{List}
 use mathlib.Core.Logic.{_⊎_, inl, inr}
-use mathlib.Core.Option.{Option, none, some}
-use Prim.Native.Nat.{ℕ, zero, suc, _+_, _-_, _≤_, _<_}
+use mathlib.Core.Option.{none, some}
+use Prim.Native.Nat.{ℕ, suc, _+_, _-_, _≤_, _<_}
 use native.Mathlib.Omega.{arith}
 use lib.Dec.{ltb, eqb}
 use lib.ListN.{length, set, length-set}
@@ -17,7 +17,6 @@ use Rattle.layout.specs.Asked.{Ready}
 use Rattle.layout.specs.Limit.{limitOf}
 use Rattle.layout.specs.Shared.{sharePiece, giveShare, close, shareFrom}
 use Rattle.layout.specs.Whole.{put, draft, isClosed}
-use Rattle.layout.specs.declared.Draft.{Draft}
 
 -- at core x of m, with w, shut and need come from `plan` and `closed`, what is left to do is what the whole search does
 pub record Sharing (plan : Plan) (closed : List Bool) (i m p need : ℕ) (w : Plan) (shut : List Bool) (x : ℕ) : Type 0 where

@@ -24,10 +24,11 @@ use Rattle.layout.specs.Limit.{allowance, limit}
 use Rattle.layout.specs.Shared.{giveShare, close}
 use Rattle.layout.specs.Whole.{put, isClosed}
 use Rattle.layout.specs.declared.Draft.{Draft}
-use Rattle.layout.proofs.Drafts.{Drafted, Ready, drafted-room, drafted-put, task-range}
+use Rattle.layout.proofs.Drafts.{Drafted, LaidBefore, drafted-room, drafted-put, task-range}
 use Rattle.layout.proofs.Laid.{laid-part, laid-done, close-one, openCores, share-fits}
 use Rattle.layout.proofs.Limits.{limit-le}
-use Rattle.layout.proofs.More.{costs-kept, bound-grows}
+use Rattle.shapes.proofs.SamePlans.{costs-same}
+use Rattle.layout.proofs.More.{bound-grows}
 use Rattle.layout.proofs.Put.{put-old, put-new, close-stays}
 
 -- a new share z of the latest task
@@ -47,7 +48,7 @@ module _ (ts : ℕ → Task) (pc pc′ : ℕ → Piece) (n : ℕ) (same : (j : �
   -- its bound is its cost, which its local deadline holds
   share-own : (need : ℕ) → costs pc (z .task .0) n + need ≡ ts (z .task .0) .cost → z .cost ≤ need → ts (z .task .0) .cost ≤ ts (z .task .0) .deadline → bound ts pc′ (suc n) n ≤ localDeadline ts pc′ n
   unfolding bound localDeadline
-  share-own need left fits short = rw new (omega (arith, share-load (ts (z .task .0) .deadline - costs pc′ (z .task .0) n), costs-kept pc pc′ n same (z .task .0) n (le-refl n)))
+  share-own need left fits short = rw new (omega (arith, share-load (ts (z .task .0) .deadline - costs pc′ (z .task .0) n), costs-same pc′ pc n same (z .task .0) n (le-refl n)))
 
   -- it adds at most the margin to a piece that allows it
   share-older : 0 < ts (z .task .0) .period → z .cost ≤ ts (z .task .0) .period
@@ -101,18 +102,18 @@ module _ (i need x : ℕ) (d : Draft) (D : Drafted i need x d) (known : i < d .p
 
   module _ (all : y ≡ need) where
     done : (closed : List Bool) → length closed ≡ 16 → ((c : ℕ) → isClosed (d .closed) c ≡ true → isClosed closed c ≡ true) → openCores (d .plan .cores) (isClosed closed) ≤ openCores (d .plan .cores) (isClosed (d .closed))
-        → Ready (suc i) (record { plan = put z (d .plan); closed = closed })
+        → LaidBefore (suc i) (record { plan = put z (d .plan); closed = closed })
     unfolding put z
     done closed wide keeps less = drafted-put i need x d D known z closed wide (suc i) (taskOf (d .plan) (suc i) .cost) 0
         (laid-done _ _ _ _ _ _ i need x (D .laid) z _ (put-old z (d .plan)) (put-new z (d .plan) inside) _ keeps known refl (λ k h e. (refl, le-refl x)) here free positive fits older own all (omega (arith, D .laid .few, less)))
 
     -- the limit exceeds need: the core stays open
-    pub fit-ready : Ready (suc i) (giveShare d i x y)
+    pub fit-ready : LaidBefore (suc i) (giveShare d i x y)
     unfolding giveShare z
     fit-ready = done (d .closed) (D .wide) (λ c e. e) (le-refl _)
 
     -- the limit equals need: the core is closed
-    pub fill-ready : Ready (suc i) (close (giveShare d i x y) x)
+    pub fill-ready : LaidBefore (suc i) (close (giveShare d i x y) x)
     unfolding close giveShare z
     fill-ready = done (set (d .closed) x true) (length-set (d .closed) x true ∙ D .wide) stays
         (omega (arith, close-one (d .plan .cores) (isClosed (d .closed)) (isClosed (set (d .closed) x true)) x here free shut stays))

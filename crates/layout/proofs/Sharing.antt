@@ -13,7 +13,7 @@ use Rattle.layout.specs.Limit.{limit}
 use Rattle.layout.specs.Shared.{giveShare, close, shareFrom}
 use Rattle.layout.specs.Whole.{put, isClosed}
 use Rattle.layout.specs.declared.Draft.{Draft}
-use Rattle.layout.proofs.Drafts.{Drafted, Ready}
+use Rattle.layout.proofs.Drafts.{Drafted, LaidBefore}
 use Rattle.layout.proofs.Laid.{laid-skip}
 use Rattle.layout.proofs.Shares.{part-drafted, fit-ready, fill-ready}
 
@@ -56,7 +56,7 @@ module _ (d : Draft) (i need x f : ℕ) where
 pub drafted-skip : (i need x : ℕ) (d : Draft) → Drafted i need x d → Drafted i need (x + 1) d
 drafted-skip i need x d D = record { good = D .good; long = D .long; wide = D .wide; clean = D .clean; laid = laid-skip _ _ _ _ _ _ i need x (D .laid) }
 
-pub share-ready : (i f x need : ℕ) (d v : Draft) → Drafted i need x d → i < d .plan .count → 1 ≤ need → x + f ≤ d .plan .cores → shareFrom d i need x f ≡ some v → Ready (suc i) v
+pub share-ready : (i f x need : ℕ) (d v : Draft) → Drafted i need x d → i < d .plan .count → 1 ≤ need → x + f ≤ d .plan .cores → shareFrom d i need x f ≡ some v → LaidBefore (suc i) v
 unfolding shareFrom close giveShare put most
 share-ready i zero x need d v D known positive room e = none-some e
 share-ready i (suc f) x need d v D known positive room e = go (turn d i need x f) (share-ready i f (x + 1))
@@ -64,8 +64,8 @@ share-ready i (suc f) x need d v D known positive room e = go (turn d i need x f
     here : x < d .plan .cores
     here = omega arith
 
-    go : Turn d i need x f → ((need : ℕ) (d v : Draft) → Drafted i need (x + 1) d → i < d .plan .count → 1 ≤ need → x + 1 + f ≤ d .plan .cores → shareFrom d i need (x + 1) f ≡ some v → Ready (suc i) v) → Ready (suc i) v
+    go : Turn d i need x f → ((need : ℕ) (d v : Draft) → Drafted i need (x + 1) d → i < d .plan .count → 1 ≤ need → x + 1 + f ≤ d .plan .cores → shareFrom d i need (x + 1) f ≡ some v → LaidBefore (suc i) v) → LaidBefore (suc i) v
     go (skip t) ih = ih need d v (drafted-skip i need x d D) known positive (omega arith) (rw t at e)
     go (part free positive less t) ih = ih (need - most d i need x f) _ v (part-drafted i need x d D known here free (most d i need x f) positive (omega arith) (le-refl _)) known (omega arith) (omega arith) (rw t at e)
-    go (fill free l same t) ih = subst (Ready (suc i)) (some-is (rw t at e)) (fill-ready i need x d D known here free need positive (le-refl _) (omega arith) refl)
-    go (fit free more t) ih = subst (Ready (suc i)) (some-is (rw t at e)) (fit-ready i need x d D known here free need positive (le-refl _) (omega arith) refl)
+    go (fill free l same t) ih = subst (LaidBefore (suc i)) (some-is (rw t at e)) (fill-ready i need x d D known here free need positive (le-refl _) (omega arith) refl)
+    go (fit free more t) ih = subst (LaidBefore (suc i)) (some-is (rw t at e)) (fit-ready i need x d D known here free need positive (le-refl _) (omega arith) refl)

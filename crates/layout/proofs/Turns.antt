@@ -17,7 +17,7 @@ use Rattle.layout.specs.Limit.{allowance, limit}
 use Rattle.layout.specs.Shared.{sharePiece, giveShare, close, shareFrom}
 use Rattle.layout.specs.Whole.{put, isClosed, takesWhole}
 use Rattle.layout.specs.declared.Draft.{Draft}
-use Rattle.layout.proofs.Drafts.{Drafted, Ready}
+use Rattle.layout.proofs.Drafts.{Drafted, LaidBefore}
 use Rattle.layout.proofs.Limits.{limit-le}
 use Rattle.layout.proofs.Put.{put-old, close-stays}
 use Rattle.layout.proofs.Shares.{part-drafted}
@@ -59,7 +59,7 @@ allows-less i need x d D p q h =
       r .most,
     )
 
-module _ (d : Draft) (i : ℕ) (A : Ready i d) (known : i < d .plan .count) where
+module _ (d : Draft) (i : ℕ) (A : LaidBefore i d) (known : i < d .plan .count) where
   -- it keeps what every draft keeps
   pub record Kept (need x : ℕ) (e : Draft) : Type 0 where
     pub drafted : Drafted i need x e

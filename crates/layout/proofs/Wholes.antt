@@ -17,6 +17,7 @@ use Rattle.plans.proofs.Rank.{above-core, above-self, above-whole}
 use Rattle.bounds.specs.Bound.{localDeadline, load, bound}
 use Rattle.plans.specs.Pieces.{taskOf, pieceOf, costs}
 use Rattle.plans.specs.Rank.{above}
+use Rattle.shapes.proofs.SamePlans.{costs-same}
 use Rattle.shapes.specs.Shape.{isShare}
 use Rattle.plans.specs.declared.Kind.{Kind}
 use Rattle.plans.specs.declared.Kind.the-variants.{Whole, Share}
@@ -24,12 +25,12 @@ use Rattle.plans.specs.declared.Piece.{Piece}
 use Rattle.plans.specs.declared.Plan.{Plan}
 use Rattle.layout.specs.Whole.{put, isClosed, wholePiece, keepsBound, takesWhole}
 use Rattle.layout.specs.declared.Draft.{Draft}
-use Rattle.layout.proofs.Drafts.{Ready, drafted-room, drafted-put, task-range}
+use Rattle.layout.proofs.Drafts.{LaidBefore, drafted-room, drafted-put, task-range}
 use Rattle.layout.proofs.Laid.{laid-done}
-use Rattle.layout.proofs.More.{costs-kept, local-kept}
+use Rattle.layout.proofs.More.{local-kept}
 use Rattle.layout.proofs.Put.{put-old, put-new}
 
-module _ (i : ℕ) (d : Draft) (R : Ready i d) (known : i < d .plan .count) (x : ℕ) where
+module _ (i : ℕ) (d : Draft) (R : LaidBefore i d) (known : i < d .plan .count) (x : ℕ) where
   z : Piece
   z = wholePiece (d .plan) i x
 
@@ -64,7 +65,7 @@ module _ (i : ℕ) (d : Draft) (R : Ready i d) (known : i < d .plan .count) (x :
         rw (local-kept (pieceOf (d .plan)) (pieceOf v) (d .plan .placed) (put-old z (d .plan)) (taskOf (d .plan)) q h) at (tested q (omega arith) (rw (put-old z (d .plan) q h) (sym c)) (rw (put-old z (d .plan) q h) s))
 
     -- the task is placed, and the core stays open
-    pub whole-ready : Ready (suc i) (record { plan = put (wholePiece (d .plan) i x) (d .plan); closed = d .closed })
+    pub whole-ready : LaidBefore (suc i) (record { plan = put (wholePiece (d .plan) i x) (d .plan); closed = d .closed })
     unfolding v z put
     whole-ready = drafted-put i (taskOf (d .plan) i .cost) 0 d R known z (d .closed) (R .wide) (suc i) (taskOf (d .plan) (suc i) .cost) 0
         (laid-done _ _ _ _ _ _ i _ 0 (R .laid) z (pieceOf v) (put-old z (d .plan)) (put-new z (d .plan) inside) _ (λ c e. e) known refl
@@ -95,7 +96,7 @@ module _ (i : ℕ) (d : Draft) (R : Ready i d) (known : i < d .plan .count) (x :
 
     empty-own : bound (taskOf (d .plan)) (pieceOf v) (suc n) n ≤ localDeadline (taskOf (d .plan)) (pieceOf v) n
     unfolding bound localDeadline v n z
-    empty-own = rw (put-new z (d .plan) inside) (omega (arith, empty-load (taskOf (d .plan) i .deadline - costs (pieceOf v) i n), costs-kept (pieceOf (d .plan)) (pieceOf v) n (put-old z (d .plan)) i n (le-refl n), R .laid .left, r .short))
+    empty-own = rw (put-new z (d .plan) inside) (omega (arith, empty-load (taskOf (d .plan) i .deadline - costs (pieceOf v) i n), costs-same (pieceOf v) (pieceOf (d .plan)) n (put-old z (d .plan)) i n (le-refl n), R .laid .left, r .short))
 
     -- an empty core takes every task whole
     pub empty-takes : takesWhole d i x ≡ true

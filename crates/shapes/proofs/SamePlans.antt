@@ -33,7 +33,7 @@ module _ (pc qc : ℕ → Piece) (n : ℕ) (same : (j : ℕ) → j < n → pc j 
       go (yes b) = rw (same j l, same (suc j) b)
       go (no b) = rw (le-ltb (suc j) n (omega arith))
 
-  order-same : (j : ℕ) → j < n → inOrder pc j ≡ inOrder qc j
+  pub order-same : (j : ℕ) → j < n → inOrder pc j ≡ inOrder qc j
   unfolding inOrder
   order-same zero l = rw (same 0 l)
   order-same (suc j) l = rw (same j (omega arith), same (suc j) l)

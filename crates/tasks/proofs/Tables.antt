@@ -4,7 +4,7 @@ use mathlib.Core.Bool.{Bool, true, false, not, _&&_}
 use Prim.Native.Nat.{ℕ, _≤_, _<_}
 use lib.Dec.{leb}
 use native.Mathlib.Omega.{arith}
-use borrow.Author.Tests.{le-leb, lt-leb, leb-true, not-true, not-false}
+use borrow.Author.Tests.{le-leb, leb-true, not-true, not-false}
 use Rattle.tasks.proofs.Below.{any-make, any-each, any-none, first-holds, first-before, first-is}
 use Rattle.tasks.proofs.Bools.{both}
 use Rattle.tasks.specs.Below.{any, first}

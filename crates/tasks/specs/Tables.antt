@@ -2,7 +2,7 @@
 use mathlib.Core.Bool.{Bool, _&&_, not, cond}
 use mathlib.Core.Path.{_≡_}
 use Prim.Native.Nat.{ℕ, _≤_, _<_}
-use lib.Dec.{leb, ltb}
+use lib.Dec.{leb}
 use lib.ListN.{getD}
 use Rattle.tasks.specs.Below.{any, first}
 use Rattle.tasks.specs.declared.Answer.{Answer}

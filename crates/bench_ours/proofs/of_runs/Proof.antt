@@ -1,5 +1,4 @@
 use borrow.Author.Needs.{needs}
-use native.Mathlib.Omega.{arith}
 use Prim.Native.Nat.{_≤_, _-_}
 use Rattle.bench_ours.proofs.of_runs.Statement.{statement}
 use Rattle.bench_ours.proofs.of_runs.Tie as tie

@@ -1,12 +1,9 @@
 use native.Mathlib.Omega.{arith}
-use Prim.Native.Nat.{ℕ, _+_, _-_, _/_, _≤_, _<_}
-use mathlib.Core.Path.{_≡_, sym, ap, _∙_}
+use mathlib.Core.Path.{sym}
 use native.Mathlib.Nat.{div-le-self, le-trans}
 use Rattle.plans.proofs.Interference.{some-period}
 use Rattle.bounds.proofs.Sums.{local-small}
-use Rattle.bounds.specs.Bound.{localDeadline, bound}
 use Rattle.plans.specs.Interference.{periods}
-use Rattle.plans.specs.Pieces.{taskOf, pieceOf}
 use Rattle.layout.specs.Limit.{allowance}
 use Rattle.layout.proofs.Allowed.{no-margin}
 use borrow.Author.Needs.{needs}

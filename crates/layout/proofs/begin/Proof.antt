@@ -1,7 +1,7 @@
 use borrow.Author.Needs.{needs}
 use native.Mathlib.Omega.{arith}
 use Prim.Native.Nat.{_≤_, _-_}
-use mathlib.Core.Path.{_≡_, sym, _∙_}
+use mathlib.Core.Path.{_≡_, _∙_}
 use Rattle.layout.proofs.Placing.{begunWith, begun-none, begun-turn, begun-all}
 use Rattle.layout.proofs.begin.Statement.{statement}
 use Rattle.layout.proofs.begin.Tie as tie

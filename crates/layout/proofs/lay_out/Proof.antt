@@ -1,13 +1,11 @@
 use borrow.Author.Needs.{needs}
 use native.Mathlib.Omega.{arith}
-use Prim.Native.Nat.{ℕ, _+_, _≤_, _<_, _-_}
+use Prim.Native.Nat.{ℕ, _+_, _≤_, _-_}
 use mathlib.Core.Path.{_≡_, refl, sym, ap, _∙_}
-use mathlib.Core.Bool.{Bool, true, false}
+use mathlib.Core.Bool.{true, false}
 use lib.ListN.{replicate}
-use mathlib.Core.Option.{Option, none, some}
 use borrow.Author.Tests.{not-true, not-false}
 use Rattle.tasks.proofs.Tables.{accepted-good}
-use Rattle.layout.specs.Asked.{found}
 use Rattle.layout.specs.Layout.{start, laid, layFirst, outcome}
 use Rattle.layout.specs.Whole.{draft}
 use Rattle.layout.specs.declared.Draft.{Draft}

@@ -1,4 +1,3 @@
-use native.Mathlib.Omega.{arith}
 use mathlib.Core.Path.{sym, _∙_}
 use Rattle.layout.proofs.Placing.{table-refused, table-laid}
 use borrow.Author.Needs.{needs}

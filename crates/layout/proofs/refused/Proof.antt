@@ -1,4 +1,3 @@
-use native.Mathlib.Omega.{arith}
 use borrow.Author.Needs.{needs}
 use Rattle.layout.proofs.refused.Statement.{statement}
 use Rattle.layout.proofs.refused.Tie as tie

@@ -1,11 +1,11 @@
 use borrow.Author.Needs.{needs}
 use native.Mathlib.Omega.{arith}
-use Prim.Native.Nat.{ℕ, _+_, _-_, _≤_, _<_}
-use mathlib.Core.Path.{_≡_, refl, sym, ap, _∙_}
-use mathlib.Core.Bool.{Bool, true, false}
+use Prim.Native.Nat.{_-_, _≤_}
+use mathlib.Core.Path.{_≡_, refl, sym, _∙_}
+use mathlib.Core.Bool.{false}
 use mathlib.Core.Logic.{inl, inr}
 use lib.ListN.{length, length-map}
-use Rattle.plans.specs.Pieces.{taskOf, pieceOf}
+use Rattle.plans.specs.Pieces.{taskOf}
 use Rattle.layout.specs.Limit.{limitOf}
 use Rattle.layout.proofs.Allowed.{limit-other, limit-here, limit-nothing, limit-start}
 use Rattle.layout.proofs.Searching.{Sharing, begun, run-out, skip, part, fill, fit}

@@ -4,7 +4,7 @@ use Rattle.runs.proofs.Turns.{allowed-few, allowed-turn}
 use Rattle.runs.specs.Allowed.{allowedBelow}
 use Prim.Native.Nat.{_≤_, _-_}
 use native.Mathlib.Omega.{arith}
-use mathlib.Core.Path.{_≡_, refl, sym, ap, _∙_}
+use mathlib.Core.Path.{_≡_, ap}
 use Rattle.runs.proofs.all_allowed.Statement.{statement}
 use Rattle.runs.proofs.all_allowed.Tie as tie
 use Rattle.runs.proofs.all_allowed.Reads as reads

@@ -6,10 +6,10 @@ use Rattle.tasks.proofs.Tables.{counts-say, bad-cores, bad-count, bad-v
 use borrow.Author.Needs.{needs}
 use native.Mathlib.Omega.{arith}
 use Prim.Native.Nat.{ℕ, _≤_, _<_, _-_}
-use mathlib.Core.Path.{_≡_, refl}
-use mathlib.Core.Bool.{Bool, true, false, not}
+use mathlib.Core.Path.{_≡_}
+use mathlib.Core.Bool.{true}
 use lib.ListN.{getD}
-use Rattle.tasks.specs.Tables.{noTask, valuesFit, checkedTasks}
+use Rattle.tasks.specs.Tables.{noTask, valuesFit}
 use Rattle.tasks.proofs.check_tasks.Statement.{statement}
 use Rattle.tasks.proofs.check_tasks.Tie as tie
 use Rattle.tasks.proofs.check_tasks.Reads as reads

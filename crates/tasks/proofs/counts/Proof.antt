@@ -1,5 +1,3 @@
-use borrow.Author.Needs.{needs}
-use native.Mathlib.Omega.{arith}
 use borrow.Author.Tests.{le-leb, lt-leb}
 use Rattle.tasks.proofs.counts.Statement.{statement}
 use Rattle.tasks.proofs.counts.Tie as tie

@@ -1,6 +1,4 @@
 use Rattle.tasks.proofs.Tables.{values-last}
-use borrow.Author.Needs.{needs}
-use native.Mathlib.Omega.{arith}
 use borrow.Author.Tests.{le-leb, lt-leb}
 use Rattle.tasks.proofs.values_fit.Statement.{statement}
 use Rattle.tasks.proofs.values_fit.Tie as tie
