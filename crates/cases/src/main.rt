@@ -7,7 +7,6 @@ use dispatch::State;
 use dispatch::Tasks;
 use force::InForce;
 use libc::STDOUT_FILENO;
-use lines::Text;
 use plans::Kind;
 use plans::Piece;
 use plans::Plan;
@@ -17,6 +16,7 @@ use tasks::CoreNo;
 use tasks::Table;
 use tasks::Task;
 use tasks::TaskNo;
+use texts::Text;
 use writing::Written;
 
 fn say(words: &[u8]) {
@@ -26,7 +26,7 @@ fn say(words: &[u8]) {
 fn say_answer(answer: Answer) {
     match answer {
         Answer::Accepted => say(b"accepted\n"),
-        Answer::Refused(refusal) => console::print(lines::refused(refusal)),
+        Answer::Refused(refusal) => console::print(texts::refused(refusal)),
     }
 }
 
@@ -41,7 +41,7 @@ fn say_written(written: Written) {
             io::print_decimal(STDOUT_FILENO, length as u64);
             say(b" bytes\n");
         }
-        Written::Refused(refusal) => console::print(lines::refused(refusal)),
+        Written::Refused(refusal) => console::print(texts::refused(refusal)),
     }
 }
 
@@ -110,7 +110,7 @@ fn counts() {
 // If the core count is absent, it is 4.
 fn cores() {
     say(b"no core count: ");
-    console::print(lines::lister(fed(1)));
+    console::print(listing::lister(fed(1)));
 }
 
 // A table file for two cores and one task is 19 bytes, and the byte past them stays as it was.
@@ -146,7 +146,7 @@ fn in_force<'a>(own: &'a [u8], shipped: &'a [u8]) {
     match force::which_in_force(own, shipped) {
         InForce::Own => say(b"the machine's own\n"),
         InForce::Shipped => say(b"the shipped ones\n"),
-        InForce::Neither(refusal) => console::print(lines::refused(refusal)),
+        InForce::Neither(refusal) => console::print(texts::refused(refusal)),
     }
 }
 
@@ -212,7 +212,7 @@ fn tick(plan: Plan, state: State, finished: Tasks, released: Tasks) {
     let ticked = dispatch::tick(plan, state, finished, released);
     let answer = ticked.answer;
     let runs = ticked.runs;
-    console::print(Text::empty().ran(plan.cores, Ran { answer, runs }));
+    console::print(lines::ran(Text::empty(), plan.cores, Ran { answer, runs }));
 }
 
 // What a tick is refused with.
@@ -249,7 +249,7 @@ fn ticks(plan: Plan) {
 fn bounds(plan: Plan) {
     say(b"the bound of a piece past the list: ");
     if let Bounding::Refused(refusal) = bounds::ask_bound(plan, 2) {
-        console::print(lines::refused(refusal));
+        console::print(texts::refused(refusal));
     }
 }
 

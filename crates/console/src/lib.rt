@@ -2,10 +2,10 @@
 // A read that fails counts as the end of the input.
 use libc::STDIN_FILENO;
 use libc::STDOUT_FILENO;
-use lines::Text;
 use reading::ReadPlan;
 use reading::ReadTable;
 use reading::Reader;
+use texts::Text;
 
 // A reader after one more part, and whether the input may go on.
 struct Fed {

@@ -1,4 +1,4 @@
-pub mod Putting
+pub mod Gaps
 pub mod Whole
 pub mod Running
 pub mod Settled

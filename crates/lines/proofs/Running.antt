@@ -11,9 +11,9 @@ use Rattle.runs.specs.Allowed.{fullTick, stateAfter}
 use Rattle.runs.specs.Watching.{noneFinished, allReleased}
 use Rattle.lines.specs.Lines.{tickedText, totalsText, runText}
 use Rattle.lines.specs.Running.{withLine, ranFrom}
-use Rattle.lines.specs.Text.{puts}
-use Rattle.lines.specs.declared.Text.{Text}
-use Rattle.lines.proofs.Putting.{puts-parts}
+use Rattle.texts.specs.Text.{puts}
+use Rattle.texts.specs.declared.Text.{Text}
+use Rattle.texts.proofs.Putting.{puts-parts}
 
 module _ (t : Text) (p : Plan) where
   abbrev line : State → List ℕ

@@ -1,21 +1,11 @@
--- The lines that the programs print, byte for byte.
+-- The lines of ticks and their totals, byte for byte.
 use mathlib.Core.List.{List, [], _++_}
 use Prim.Native.Nat.{ℕ, zero, suc, min}
 use lib.ListN.{getD}
-use Rattle.tasks.specs.Refusals.{Told, place, task, given, needed, nothing, number, tells}
-use Rattle.tasks.specs.declared.Answer.{Answer}
-use Rattle.tasks.specs.declared.Answer.the-variants.{Accepted, Refused}
-use Rattle.tasks.specs.declared.Refusal.{Refusal}
-use Rattle.plans.specs.Pieces.{taskOf, pieceOf}
-use Rattle.plans.specs.declared.Kind.{Kind}
-use Rattle.plans.specs.declared.Kind.the-variants.{Whole, Share}
-use Rattle.plans.specs.declared.Piece.{Piece}
+use Rattle.plans.specs.Pieces.{taskOf}
 use Rattle.plans.specs.declared.Plan.{Plan}
-use Rattle.layout.specs.Layout.{planned}
-use Rattle.layout.specs.declared.Planned.{Planned}
 use Rattle.writing.specs.Fields.{row}
 use Rattle.reading.specs.declared.ReadPlan.{ReadPlan}
-use Rattle.reading.specs.declared.ReadTable.{ReadTable}
 use Rattle.dispatch.specs.Jobs.{noRun}
 use Rattle.dispatch.specs.declared.CoreRun.{CoreRun}
 use Rattle.dispatch.specs.declared.Runner.{Runner}
@@ -26,60 +16,8 @@ use Rattle.board.specs.Ran.{ranOf}
 use Rattle.board.specs.declared.Ran.{Ran}
 use Rattle.runs.specs.Allowed.{fullTick, stateAfter}
 use Rattle.runs.specs.declared.Watched.{Watched}
-use Rattle.lines.specs.Text.{ascii, decimal}
-use Rattle.lines.specs.declared.Said.{Said}
-use Rattle.lines.specs.declared.Said.the-variants.{Place, Task, Given, Needed, Nothing}
-
--- what the code says of a refusal, as what the refusal tells
-abbrev pub meant : Said → Told
-meant (Place p) = place p
-meant (Task i) = task i
-meant (Given n) = given n
-meant (Needed n) = needed n
-meant Nothing = nothing
-
--- what a refusal tells
-unfoldable pub toldText : Told → List ℕ
-toldText (place p) = ascii " at " ++ decimal p
-toldText (task i) = ascii " task " ++ decimal i
-toldText (given n) = ascii " given " ++ decimal n
-toldText (needed n) = ascii " needs " ++ decimal n
-toldText nothing = []
-
--- `refused 7 task 3`, `refused 5 at 4`, `refused 8`
-unfoldable pub refusalText : Refusal → List ℕ
-refusalText x = ascii "refused " ++ (decimal (number x) ++ (toldText (tells x) ++ ascii "\n"))
-
--- a refusal's line, or what is said where nothing is refused
-abbrev pub answerText : Answer → List ℕ → List ℕ
-answerText (Refused x) said = refusalText x
-answerText Accepted said = said
-
--- ---- the lister
-
--- `cores 2 tasks 3`
-unfoldable pub headText : ℕ → ℕ → List ℕ
-headText m n = ascii "cores " ++ (decimal m ++ (ascii " tasks " ++ (decimal n ++ ascii "\n")))
-
-abbrev pub kindText : Kind → List ℕ
-kindText Whole = ascii " whole "
-kindText Share = ascii " share "
-
--- each piece: task, core, kind, cost, as `2 0 share 4`
-unfoldable pub pieceText : Piece → List ℕ
-pieceText z = decimal (z .task .0) ++ (ascii " " ++ (decimal (z .core .0) ++ (kindText (z .kind) ++ (decimal (z .cost) ++ ascii "\n"))))
-
--- a first line gives cores and tasks; then each piece
-unfoldable pub listingText : Plan → List ℕ
-listingText p = headText (p .cores) (p .count) ++ row (min (p .placed) 128) (λ j. pieceText (pieceOf p j))
-
-abbrev pub plannedText : Planned → List ℕ
-plannedText l = answerText (l .answer) (listingText (l .plan))
-
-unfoldable pub listerText : ReadTable → List ℕ
-listerText r = answerText (r .answer) (plannedText (planned (r .table)))
-
--- ---- ticks
+use Rattle.texts.specs.Telling.{answerText}
+use Rattle.texts.specs.Text.{ascii, decimal}
 
 -- the task on a core, or `-`
 abbrev pub runnerText : Runner → List ℕ

@@ -6,8 +6,8 @@ use Rattle.board.specs.Kept.{keptFor}
 use Rattle.board.specs.declared.Ran.{Ran}
 use Rattle.runs.specs.Watching.{noneFinished, allReleased}
 use Rattle.lines.specs.Lines.{ranText, totalsText}
-use Rattle.lines.specs.Text.{puts}
-use Rattle.lines.specs.declared.Text.{Text}
+use Rattle.texts.specs.Text.{puts}
+use Rattle.texts.specs.declared.Text.{Text}
 
 abbrev pub withLine : Text → Plan → Ran → State → Text
 withLine t p r s = puts t (ranText (p .cores) r)

@@ -1,4 +1,4 @@
 // The plan lister: reads a table file from standard input and prints its plan, or why there is none.
 fn main() {
-    console::print(lines::lister(console::read_table()));
+    console::print(listing::lister(console::read_table()));
 }

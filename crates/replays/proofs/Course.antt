@@ -17,9 +17,9 @@ use Rattle.plans.specs.declared.Plan.{Plan}
 use Rattle.board.specs.Kept.{keptOnce, keptFor}
 use Rattle.board.specs.declared.Ran.{Ran}
 use Rattle.lines.specs.Lines.{ranText, tickedText}
-use Rattle.lines.specs.Text.{noText, puts, textOf}
-use Rattle.lines.specs.declared.Text.{Text}
-use Rattle.lines.proofs.Putting.{puts-parts}
+use Rattle.texts.specs.Text.{noText, puts, textOf}
+use Rattle.texts.specs.declared.Text.{Text}
+use Rattle.texts.proofs.Putting.{puts-parts}
 use Rattle.dispatch.specs.declared.State.{State}
 use Rattle.replays.specs.Requests.{finishes, releases, requestSize, requestRead}
 use Rattle.replays.specs.Replay.{placeAt, tickAsked, Standing, next, played, oneMore, wholes, atHand, standing, playedOn, lastAnswer}

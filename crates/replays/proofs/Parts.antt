@@ -18,7 +18,7 @@ use Rattle.plans.specs.declared.Plan.{Plan}
 use Rattle.dispatch.specs.declared.State.{State}
 use Rattle.dispatch.specs.declared.Ticked.{Ticked}
 use Rattle.lines.specs.Lines.{tickedText, totalsText}
-use Rattle.lines.specs.Text.{textOf}
+use Rattle.texts.specs.Text.{textOf}
 use Rattle.replays.specs.Requests.{requestSize, requestRead}
 use Rattle.replays.specs.Replay.{placeAt, tickAsked, closed, ticksText, Standing, next, played, wholes, atHand, standing, playedOn}
 use Rattle.replays.specs.declared.Asked.{Asked}

@@ -8,7 +8,7 @@ use Rattle.dispatch.specs.declared.Tasks.{Tasks}
 use Rattle.board.specs.Kept.{keptFor}
 use Rattle.board.specs.declared.Ran.{Ran}
 use Rattle.lines.specs.Lines.{ranText}
-use Rattle.lines.specs.Text.{puts}
+use Rattle.texts.specs.Text.{puts}
 use Rattle.replays.specs.Requests.{requestSize, requestRead}
 use Rattle.replays.specs.Replay.{placeAt}
 use Rattle.replays.specs.declared.Asked.{Asked}

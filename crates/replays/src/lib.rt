@@ -10,12 +10,12 @@ ghost use Rattle.replays.specs.Turns.{askedOf, shownOf, shotOf, shotAfte
 use board::Ran;
 use dispatch::State;
 use dispatch::Tasks;
-use lines::Text;
 use plans::Plan;
 use tasks::Answer;
 use tasks::Place;
 use tasks::Refusal;
 use tasks::TaskNo;
+use texts::Text;
 
 // A tick's two sets, or why the bytes hold none.
 pub struct Asked {
@@ -200,7 +200,7 @@ fn show(reel: Reel, plan: Plan, ran: Ran, _state: State) -> Reel
         bytes,
         count: reel.count,
         at: begin + size,
-        text: text.ran(plan.cores, ran),
+        text: lines::ran(text, plan.cores, ran),
     }
 }
 

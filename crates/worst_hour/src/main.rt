@@ -46,7 +46,7 @@ fn eight_cores() -> Table {
 
 fn show(table: Table) {
     let planned = layout::plan_table(table);
-    console::print(lines::planned(planned));
+    console::print(listing::planned(planned));
     let answer = planned.answer;
     if let Answer::Accepted = answer {
         let plan = planned.plan;

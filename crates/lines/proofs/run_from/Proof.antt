@@ -11,8 +11,8 @@ use Rattle.board.proofs.step.Symbol.{name as #board·step}
 use Rattle.board.proofs.step.Met as step-thm
 use Rattle.runs.specs.Watching.{noneFinished, allReleased}
 use Rattle.lines.specs.Running.{withLine, withTotals}
-use Rattle.lines.proofs.Text as T
-use Rattle.lines.proofs.Text.Laws as T′
+use Rattle.texts.proofs.Text as T
+use Rattle.texts.proofs.Text.Laws as T′
 use Rattle.lines.proofs.none_finished as none-finished
 use Rattle.lines.proofs.none_finished.Symbol as none-finished-def
 use Rattle.lines.proofs.none_finished.Symbol.{name as #lines·none-finished}

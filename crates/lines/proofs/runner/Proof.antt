@@ -3,9 +3,9 @@ use Rattle.lines.proofs.runner.Statement.{statement}
 use Rattle.lines.proofs.runner.Tie as tie
 use Rattle.lines.proofs.runner.Reads as reads
 use Rattle.lines.proofs.runner.Lts as lts
-use Rattle.lines.proofs.Text.empty.Reads as empty-reads
-use Rattle.lines.proofs.Text.run.Reads as run-reads
-use Rattle.lines.proofs.refused.Reads as refused-reads
+use Rattle.texts.proofs.Text.empty.Reads as empty-reads
+use Rattle.lines.proofs.run.Reads as run-reads
+use Rattle.texts.proofs.refused.Reads as refused-reads
 
 -- src/lib.rt:357:29
 enum-told : tie.Need-enum-told

@@ -1,18 +1,18 @@
 use borrow.Author.Needs.{needs}
 use Rattle.plans.specs.Pieces.{taskOf}
 use Rattle.lines.specs.Lines.{responseText, watchedText}
-use Rattle.lines.specs.Text.{puts}
+use Rattle.texts.specs.Text.{puts}
 use lib.ListN.{getD}
-use Rattle.lines.proofs.Putting.{puts-parts, row-turn}
+use Rattle.texts.proofs.Putting.{puts-parts, row-turn}
 use Rattle.writing.specs.Fields.{row}
 use Prim.Native.Nat.{_≤_, _-_}
 use native.Mathlib.Omega.{arith}
-use mathlib.Core.Path.{_≡_, refl, sym, ap, _∙_}
+use mathlib.Core.Path.{_≡_, refl}
 use Rattle.lines.proofs.watched.Statement.{statement}
 use Rattle.lines.proofs.watched.Tie as tie
 use Rattle.lines.proofs.watched.Reads as reads
 use Rattle.lines.proofs.watched.Lts as lts
-use Rattle.lines.proofs.Text.response.Reads as response-reads
+use Rattle.lines.proofs.response.Reads as response-reads
 use Rattle.lines.proofs.smaller.Reads as smaller-reads
 use Rattle.lines.proofs.totals.Reads as totals-reads
 

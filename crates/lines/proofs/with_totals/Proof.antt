@@ -4,15 +4,15 @@ use Rattle.lines.proofs.with_totals.Statement.{statement}
 use Rattle.lines.proofs.with_totals.Tie as tie
 use Rattle.lines.proofs.with_totals.Reads as reads
 use Rattle.lines.proofs.with_totals.Lts as lts
-use Rattle.lines.proofs.Text.totals.Reads as totals-reads
+use Rattle.lines.proofs.counts.Reads as counts-reads
 
 -- src/lib.rt:339:5
-totals-requires : tie.Need-totals-requires
-totals-requires c κs = search needs
+counts-requires : tie.Need-counts-requires
+counts-requires c κs = search needs
 
 -- src/lib.rt:336:1
 returns : tie.Need-returns
-returns c = c .totals .ensures (c .before .args .state) refl refl
+returns c = c .counts .ensures (c .before .args .state) refl refl
 
 pub with-totals-spec : {M : Type 1} → statement M
-with-totals-spec = tie.close (tie.spec totals-requires returns)
+with-totals-spec = tie.close (tie.spec counts-requires returns)

@@ -6,7 +6,7 @@ use Rattle.replays.proofs.play.Statement.{statement}
 use Rattle.replays.proofs.play.Tie as tie
 use Rattle.replays.proofs.play.Reads as reads
 use Rattle.replays.proofs.play.Lts as lts
-use Rattle.lines.proofs.Text.empty.Reads as empty-reads
+use Rattle.texts.proofs.Text.empty.Reads as empty-reads
 use Rattle.replays.proofs.further.Reads as further-reads
 use Rattle.replays.proofs.left.Reads as left-reads
 use Rattle.replays.proofs.shoot.Reads as shoot-reads

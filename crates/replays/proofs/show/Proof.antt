@@ -8,7 +8,7 @@ use Rattle.replays.proofs.show.Statement.{statement}
 use Rattle.replays.proofs.show.Tie as tie
 use Rattle.replays.proofs.show.Reads as reads
 use Rattle.replays.proofs.show.Lts as lts
-use Rattle.lines.proofs.Text.ran.Reads as ran-reads
+use Rattle.lines.proofs.ran.Reads as ran-reads
 use Rattle.replays.proofs.request_size.Reads as request-size-reads
 use Rattle.replays.proofs.smaller.Reads as smaller-reads
 

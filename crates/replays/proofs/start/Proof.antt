@@ -4,7 +4,7 @@ use Rattle.replays.proofs.start.Tie as tie
 use Rattle.replays.proofs.start.Reads as reads
 use Rattle.replays.proofs.start.Lts as lts
 use Rattle.dispatch.proofs.fresh.Reads as fresh-reads
-use Rattle.lines.proofs.Text.empty.Reads as empty-reads
+use Rattle.texts.proofs.Text.empty.Reads as empty-reads
 
 -- src/lib.rt:240:16
 fresh-requires : tie.Need-fresh-requires

@@ -1,0 +1,86 @@
+// The listing of a plan, and what the lister prints.
+ghost use mathlib.Core.Path.{_≡_};
+ghost use Prim.Native.Nat.{min};
+ghost use Rattle.texts.specs.Text.{puts, textOf};
+ghost use Rattle.listing.specs.Listing.{headText, kindText, pieceText, listingText, plannedText, listerText};
+use layout::Planned;
+use plans::Kind;
+use plans::Piece;
+use plans::Plan;
+use reading::ReadTable;
+use tasks::Answer;
+use texts::Text;
+
+fn smaller(a: usize, b: usize) -> usize
+    ensures { λ r. ⌜ r ≡ min a b ⌝ }
+{
+    if a < b { a } else { b }
+}
+
+// Cores and tasks.
+fn head(text: Text, cores: usize, tasks: usize) -> Text
+    ensures { λ r. ⌜ r ≡ puts text (headText cores tasks) ⌝ }
+{
+    text.words(b"cores ")
+        .number(cores as u64)
+        .words(b" tasks ")
+        .number(tasks as u64)
+        .words(b"\n")
+}
+
+fn kind(text: Text, kind: Kind) -> Text
+    ensures { λ r. ⌜ r ≡ puts text (kindText kind) ⌝ }
+{
+    match kind {
+        Kind::Whole => text.words(b" whole "),
+        Kind::Share => text.words(b" share "),
+    }
+}
+
+// Task, core, kind, cost.
+fn piece(text: Text, piece: Piece) -> Text
+    ensures { λ r. ⌜ r ≡ puts text (pieceText piece) ⌝ }
+{
+    let its_kind = piece.kind;
+    let places = text.number(piece.task.0 as u64)
+        .words(b" ")
+        .number(piece.core.0 as u64);
+    kind(places, its_kind).number(piece.cost as u64)
+        .words(b"\n")
+}
+
+// The plan's listing.
+fn listing(text: Text, plan: Plan) -> Text
+    ensures { λ r. ⌜ r ≡ puts text (listingText plan) ⌝ }
+{
+    let mut t = head(text, plan.cores, plan.count);
+    let most = smaller(plan.placed, 128);
+    let mut j = 0;
+    while j < most {
+        t = piece(t, plan.pieces[j]);
+        j += 1;
+    }
+    t
+}
+
+// The listing of the planner's answer.
+pub fn planned(planned: Planned) -> Text
+    ensures { λ r. ⌜ r ≡ textOf (plannedText planned) ⌝ }
+{
+    let answer = planned.answer;
+    match answer {
+        Answer::Accepted => listing(Text::empty(), planned.plan),
+        Answer::Refused(refusal) => texts::refused(refusal),
+    }
+}
+
+// What the lister prints for a table file that was read.
+pub fn lister(read: ReadTable) -> Text
+    ensures { λ r. ⌜ r ≡ textOf (listerText read) ⌝ }
+{
+    let answer = read.answer;
+    match answer {
+        Answer::Accepted => planned(layout::plan_table(read.table)),
+        Answer::Refused(refusal) => texts::refused(refusal),
+    }
+}

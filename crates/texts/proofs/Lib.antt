@@ -1,0 +1,3 @@
+pub mod Putting
+pub mod Whole
+pub mod Settled
