@@ -10,9 +10,10 @@ use lib.Dec.{ltb, eqb}
 use lib.ListN.{getD, set}
 use borrow.Author.Tests.{lt-ltb, le-ltb}
 use Rattle.tasks.specs.Below.{any, first, tabulate, padded}
-use Rattle.tasks.specs.Tables.{taskNo}
+use Rattle.tasks.specs.Tables.{noTask, taskNo}
 use Rattle.tasks.specs.declared.Answer.the-variants.{Accepted, Refused}
 use Rattle.tasks.specs.declared.Refusal.{Refusal}
+use Rattle.tasks.specs.declared.Task.{Task}
 use Rattle.tasks.specs.declared.TaskNo.{TaskNo}
 use Rattle.tasks.proofs.Below.{any-more, any-none, first-holds, first-none, first-same}
 use Rattle.tasks.proofs.Bools.{either, not-second}
@@ -20,36 +21,41 @@ use Rattle.tasks.proofs.Padded.{tabulate-at, padded-in}
 use Rattle.tasks.proofs.Tabulate.{tabulate-same, tabulate-turn}
 use Rattle.plans.specs.Pieces.{taskOf}
 use Rattle.plans.specs.declared.Plan.{Plan}
-use Rattle.dispatch.specs.Jobs.{noJob, jobOf, lastOf, byRunner, runningTask, names, isActive, onceReleased}
-use Rattle.dispatch.specs.Refusing.{tooSoon, stillActive, lowest}
+use Rattle.dispatch.specs.Jobs.{noJob, noRun, jobOf, byRunner, runningTask, names, isActive, onceReleased}
+use Rattle.dispatch.specs.Refusing.{notRun, tooSoon, stillActive, lowest}
 use Rattle.dispatch.specs.Rules.{eachJob, endedJob, finishedJob, finish}
 use Rattle.dispatch.specs.Sets.{member}
+use Rattle.dispatch.specs.declared.CoreRun.{CoreRun}
 use Rattle.dispatch.specs.declared.Job.{Job}
 use Rattle.dispatch.specs.declared.Phase.{Phase}
 use Rattle.dispatch.specs.declared.Phase.the-variants.{Never, Active, Ended}
+use Rattle.dispatch.specs.declared.Runner.{Runner}
 use Rattle.dispatch.specs.declared.State.{State}
 use Rattle.dispatch.specs.declared.Tasks.{Tasks}
 use Rattle.dispatch.proofs.Steps.{finish-out}
 use Rattle.dispatch.proofs.Walks.{tabulated, and-one, or-none, running, not-running}
 
--- a list that is padded with what f gives past n is f's table
-pub padded-all : {A : Type 0} (size n : ℕ) (empty : A) (f : ℕ → A) → ((t : ℕ) → n ≤ t → empty ≡ f t) → padded size n empty f ≡ tabulate size f
+-- a list that has what f gives below n and is padded with what f gives past n is f's table
+padded-all : {A : Type 0} (size n : ℕ) (empty : A) (g f : ℕ → A) → ((t : ℕ) → t < n → g t ≡ f t) → ((t : ℕ) → n ≤ t → empty ≡ f t) → padded size n empty g ≡ tabulate size f
 unfolding padded
-padded-all size n empty f h = tabulate-same size (λ t. cond (ltb t n) (f t) empty) f empty (λ t l. go t (decLt t n))
+padded-all size n empty g f w h = tabulate-same size (λ t. cond (ltb t n) (g t) empty) f empty (λ t l. go t (decLt t n))
   where
-    go : (t : ℕ) → Dec (t < n) → cond (ltb t n) (f t) empty ≡ f t
-    go t (yes b) = rw (lt-ltb t n b)
+    go : (t : ℕ) → Dec (t < n) → cond (ltb t n) (g t) empty ≡ f t
+    go t (yes b) = rw (lt-ltb t n b) (w t b)
     go t (no b) = rw (le-ltb t n (omega arith)) (h t (omega arith))
 
 -- one core more is one task more that ran, or none
-module _ (p : Plan) (s : State) where
+module _ (count : ℕ) (last : List CoreRun) where
+  abbrev ranOn : ℕ → Runner
+  ranOn x = getD last x noRun .runner
+
   -- refusal 10, only the first x cores being looked at
   abbrev pub notRunOn : ℕ → ℕ → Bool
-  notRunOn x t = not (ltb t (p .count) && any x (λ y. names t (lastOf s y)))
+  notRunOn x t = not (ltb t count && any x (λ y. names t (ranOn y)))
 
   pub none-run : (t : ℕ) → t < 256 → true ≡ notRunOn 0 t
   unfolding any
-  none-run t l = rw (not-second (ltb t (p .count)) {b = false} refl)
+  none-run t l = rw (not-second (ltb t count) {b = false} refl)
 
   same-run : (k a : Bool) {b : Bool} → b ≡ false → not (k && a) ≡ not (k && (a || b))
   same-run k a h = ap (λ (z : Bool). not (k && z)) (or-none a h)
@@ -60,11 +66,14 @@ module _ (p : Plan) (s : State) where
   run-here true false true = refl
   run-here true false false = refl
 
-  pub run-more : (xs : List Bool) (x t : ℕ) (on v : Bool) → xs ≡ tabulate 256 (notRunOn x) → t ≡ runningTask (lastOf s x) → t < 256 → on ≡ byRunner (lastOf s x) false (λ t. true) → v ≡ getD xs t false && not (on && ltb t (p .count)) → set xs t v ≡ tabulate 256 (notRunOn (x + 1))
+  pub run-more : (xs : List Bool) (x t : ℕ) (on v : Bool) → xs ≡ tabulate 256 (notRunOn x) → t ≡ runningTask (ranOn x) → t < 256 → on ≡ byRunner (ranOn x) false (λ t. true) → v ≡ getD xs t false && not (on && ltb t count) → set xs t v ≡ tabulate 256 (notRunOn (x + 1))
   run-more xs x t on v e q l o w =
       tabulate-turn 256 (notRunOn x) (notRunOn (x + 1)) xs t v e l
-      (w ∙ rw (o, q, running (lastOf s x), any-more, ← tabulated 256 (notRunOn x) xs (runningTask (lastOf s x)) false e (rw q at l)) (run-here (ltb (runningTask (lastOf s x)) (p .count)) (any x (λ y. names (runningTask (lastOf s x)) (lastOf s y))) (names (runningTask (lastOf s x)) (lastOf s x))))
-      (λ i d. rw any-more (same-run (ltb i (p .count)) (any x (λ y. names i (lastOf s y))) (not-running (lastOf s x) i (λ b. d (b ∙ sym q)))))
+      (w ∙ rw (o, q, running (ranOn x), any-more, ← tabulated 256 (notRunOn x) xs (runningTask (ranOn x)) false e (rw q at l)) (run-here (ltb (runningTask (ranOn x)) count) (any x (λ y. names (runningTask (ranOn x)) (ranOn y))) (names (runningTask (ranOn x)) (ranOn x))))
+      (λ i d. rw any-more (same-run (ltb i count) (any x (λ y. names i (ranOn y))) (not-running (ranOn x) i (λ b. d (b ∙ sym q)))))
+
+  pub run-all : (p : Plan) (s : State) → p .count ≡ count → s .last ≡ last → tabulate 256 (notRunOn (p .cores)) ≡ tabulate 256 (notRun p s)
+  run-all p s h l = rw (← h, ← l)
 
 -- refusals 11 and 12 after the finishes, told of the jobs before them
 module _ (p : Plan) (few : p .count ≤ 64) (s : State) (fs : Tasks) (t : ℕ) where
@@ -88,17 +97,32 @@ module _ (p : Plan) (few : p .count ≤ 64) (s : State) (fs : Tasks) (t : ℕ) w
   active-job Ended true late piece age ran d = refl
   active-job Ended false late piece age ran d = refl
 
-  pub soon-in : t < p .count → onceReleased (jobOf s t .phase) && ltb (jobOf s t .age) (taskOf p t .period) ≡ tooSoon p (finish p fs s) t
+  soon-in : t < p .count → onceReleased (jobOf s t .phase) && ltb (jobOf s t .age) (taskOf p t .period) ≡ tooSoon p (finish p fs s) t
   soon-in l = rw (lt-ltb t (p .count) l, finished-is l) (soon-job (jobOf s t .phase) (member fs t) (jobOf s t .late) (jobOf s t .piece) (jobOf s t .age) (jobOf s t .ran) (taskOf p t .period))
 
-  pub soon-past : p .count ≤ t → true ≡ tooSoon p (finish p fs s) t
+  soon-past : p .count ≤ t → true ≡ tooSoon p (finish p fs s) t
   soon-past l = rw (le-ltb t (p .count) l)
 
-  pub active-in : t < p .count → isActive (jobOf s t .phase) && eqb (jobOf s t .age) (taskOf p t .period) && not (member fs t) ≡ stillActive p (finish p fs s) t
+  active-in : t < p .count → isActive (jobOf s t .phase) && eqb (jobOf s t .age) (taskOf p t .period) && not (member fs t) ≡ stillActive p (finish p fs s) t
   active-in l = rw (finished-is l) (active-job (jobOf s t .phase) (member fs t) (jobOf s t .late) (jobOf s t .piece) (jobOf s t .age) (jobOf s t .ran) (taskOf p t .period))
 
-  pub active-past : p .count ≤ t → false ≡ stillActive p (finish p fs s) t
+  active-past : p .count ≤ t → false ≡ stillActive p (finish p fs s) t
   active-past l = rw (finish-out p fs s t l)
+
+-- the walks over the jobs
+module _ (tasks : List Task) (jobs : List Job) where
+  abbrev pub soonAt : ℕ → Bool
+  soonAt t = onceReleased (getD jobs t noJob .phase) && ltb (getD jobs t noJob .age) (getD tasks t noTask .period)
+
+  abbrev pub activeAt : List Bool → ℕ → Bool
+  activeAt finished t = isActive (getD jobs t noJob .phase) && eqb (getD jobs t noJob .age) (getD tasks t noTask .period) && not (getD finished t false)
+
+module _ (p : Plan) (few : p .count ≤ 64) (s : State) (fs : Tasks) where
+  pub soon-all : padded 256 (p .count) true (soonAt (p .tasks) (s .jobs)) ≡ tabulate 256 (tooSoon p (finish p fs s))
+  soon-all = padded-all 256 (p .count) true _ _ (soon-in p few s fs) (soon-past p few s fs)
+
+  pub active-all : padded 256 (p .count) false (activeAt (p .tasks) (s .jobs) (tabulate 256 (member fs))) ≡ tabulate 256 (stillActive p (finish p fs s))
+  active-all = padded-all 256 (p .count) false _ _ (λ t l. rw (tabulate-at 256 (member fs) t false (omega (arith, few))) (active-in p few s fs t l)) (active-past p few s fs)
 
 -- one more that fails
 pub none-more : (f : ℕ → Bool) (i : ℕ) → ((j : ℕ) → j < i → f j ≡ false) → f i ≡ false → (j : ℕ) → j < i + 1 → f j ≡ false

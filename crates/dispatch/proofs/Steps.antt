@@ -111,7 +111,7 @@ module _ (p : Plan) (g : Good p) where
   pub ready-pieces : (fs rs : Tasks) (s : State) → wellMade p s ≡ true → AtPieces p (release p rs (markLate p (finish p fs s)))
   ready-pieces fs rs s m = at-pieces (release p rs (markLate p (finish p fs s))) (release-all rs (markLate p (finish p fs s)) (mark-all (finish p fs s) (finish-all fs s (made-all s m))))
 
-  ran-tasks : (s : State) → wellMade p s ≡ true → RanTasks p s
+  ran-tasks : (s : State) → wellMade p s ≡ true → RanTasks (p .cores) (s .last)
   unfolding wellMade coreWellMade
   ran-tasks s m x l = go (lastOf s x) (all-each (p .cores) (coreWellMade p s) (both {a = all (p .count) (λ k. jobWellMade p k (jobOf s k))} m .1) x l)
     where
@@ -119,5 +119,5 @@ module _ (p : Plan) (g : Good p) where
       go Idle h = omega arith
       go (Runs t) h = omega (arith, g .count, ltb-true (t .0) (p .count) (both {a = ltb (t .0) (p .count)} (both {b = not (any x (λ y. names (t .0) (lastOf s y)))} h .0) .0))
 
-  pub finish-tasks : (fs : Tasks) (s : State) → wellMade p s ≡ true → RanTasks p (finish p fs s)
+  pub finish-tasks : (fs : Tasks) (s : State) → wellMade p s ≡ true → RanTasks (p .cores) (finish p fs s .last)
   finish-tasks fs s m x l = rw (finish-last p fs s) (ran-tasks s m x l)

@@ -1,8 +1,11 @@
 -- What the rules count on once the plan and the state have been checked.
+use mathlib.Core.List.{List}
 use Prim.Native.Nat.{ℕ, _≤_, _<_}
+use lib.ListN.{getD}
 use Rattle.plans.specs.Pieces.{pieceOf}
 use Rattle.plans.specs.declared.Plan.{Plan}
-use Rattle.dispatch.specs.Jobs.{jobOf, lastOf, runningTask}
+use Rattle.dispatch.specs.Jobs.{noRun, jobOf, runningTask}
+use Rattle.dispatch.specs.declared.CoreRun.{CoreRun}
 use Rattle.dispatch.specs.declared.State.{State}
 
 -- the counts are within the records, and each piece is of a task and on a core of the plan
@@ -17,6 +20,6 @@ pub record Sound (p : Plan) : Type 0 where
 abbrev pub AtPieces : Plan → State → Type 0
 AtPieces p s = (i : ℕ) → i < p .count → jobOf s i .piece < p .placed
 
--- what ran on each core in the last tick was a task of the plan
-abbrev pub RanTasks : Plan → State → Type 0
-RanTasks p s = (x : ℕ) → x < p .cores → runningTask (lastOf s x) < 64
+-- what ran on each of so many cores in the last tick is a task that a plan may have
+abbrev pub RanTasks : ℕ → List CoreRun → Type 0
+RanTasks cores last = (x : ℕ) → x < cores → runningTask (getD last x noRun .runner) < 64

@@ -146,17 +146,20 @@ fn judge_sets(plan: Plan, state: State, finished: Tasks, released: Tasks) -> Ans
     requires { ⌜ (plan .cores ≤ 16) × (plan .count ≤ 64) ⌝ }
     ensures { λ r. ⌜ r ≡ judgedSets plan state finished released ⌝ }
 {
+    let tasks = plan.tasks;
+    let jobs = state.jobs;
+    let last = state.last;
     let ended = marks(finished);
-    let idle = lowest_wrong(ended, not_run(plan, state));
+    let idle = lowest_wrong(ended, not_run(plan.count, plan.cores, last));
     if idle < 256 {
         return Answer::Refused(Refusal::NotRun(TaskNo(idle as u8)));
     }
     let members = marks(released);
-    let soon = lowest_wrong(members, too_soon(plan, state));
+    let soon = lowest_wrong(members, too_soon(plan.count, tasks, jobs));
     if soon < 256 {
         return Answer::Refused(Refusal::TooSoon(TaskNo(soon as u8)));
     }
-    let active = lowest_wrong(members, still_active(plan, state, ended));
+    let active = lowest_wrong(members, still_active(plan.count, tasks, jobs, ended));
     if active < 256 {
         return Answer::Refused(Refusal::StillActive(TaskNo(active as u8)));
     }
@@ -178,49 +181,54 @@ fn lowest_wrong(members: [bool; 256], wrong: [bool; 256]) -> usize
 }
 
 // Refusal 10 for each task.
-fn not_run(plan: Plan, state: State) -> [bool; 256]
-    requires { ⌜ plan .cores ≤ 16 ⌝ }
-    ensures { λ r. ⌜ r ≡ tabulate 256 (notRun plan state) ⌝ }
+fn not_run(count: usize, cores: usize, last: [CoreRun; 16]) -> [bool; 256]
+    requires { ⌜ cores ≤ 16 ⌝ }
+    ensures { λ r. ⌜ ((p : Plan) (s : State) → p .count ≡ count → p .cores ≡ cores → s .last ≡ last → r ≡ tabulate 256 (notRun p s)) ⌝ }
 {
     let mut wrong = [true; 256];
     let mut x = 0;
-    while x < plan.cores {
-        let core = state.last[x];
+    while x < cores {
+        let core = last[x];
         let runner = core.runner;
         let task = task_of(runner);
-        wrong[task] = wrong[task] & !(is_running(runner) & (task < plan.count));
+        wrong[task] = wrong[task] & !(is_running(runner) & (task < count));
         x += 1;
     }
     wrong
 }
 
 // Refusal 11 for each task: a finish changes neither an age nor whether there was a release.
-fn too_soon(plan: Plan, state: State) -> [bool; 256]
-    requires { ⌜ plan .count ≤ 64 ⌝ }
-    ensures { λ r. ⌜ ((fs : Tasks) → r ≡ tabulate 256 (tooSoon plan (finish plan fs state))) ⌝ }
+fn too_soon(count: usize, tasks: [Task; 64], jobs: [Job; 64]) -> [bool; 256]
+    requires { ⌜ count ≤ 64 ⌝ }
+    ensures { λ r. ⌜ ((p : Plan) (s : State) (fs : Tasks) → p .count ≡ count → p .tasks ≡ tasks → s .jobs ≡ jobs → r ≡ tabulate 256 (tooSoon p (finish p fs s))) ⌝ }
 {
     let mut wrong = [true; 256];
     let mut t = 0;
-    while t < plan.count {
-        let job = state.jobs[t];
+    while t < count {
+        let job = jobs[t];
         let phase = job.phase;
-        wrong[t] = once_released(phase) & (job.age < plan.tasks[t].period);
+        wrong[t] = once_released(phase) & (job.age < tasks[t].period);
         t += 1;
     }
     wrong
 }
 
 // Refusal 12 for each task, these being the finished ones.
-fn still_active(plan: Plan, state: State, finished: [bool; 256]) -> [bool; 256]
-    requires { ⌜ plan .count ≤ 64 ⌝ }
-    ensures { λ r. ⌜ ((fs : Tasks) → finished ≡ tabulate 256 (member fs) → r ≡ tabulate 256 (stillActive plan (finish plan fs state))) ⌝ }
+fn still_active(
+    count: usize,
+    tasks: [Task; 64],
+    jobs: [Job; 64],
+    finished: [bool; 256],
+) -> [bool; 256]
+    requires { ⌜ count ≤ 64 ⌝ }
+    ensures { λ r. ⌜ ((p : Plan) (s : State) (fs : Tasks) → p .count ≡ count → p .tasks ≡ tasks → s .jobs ≡ jobs → finished ≡ tabulate 256 (member fs) → r ≡ tabulate 256 (stillActive p (finish p fs s))) ⌝ }
 {
     let mut wrong = [false; 256];
     let mut t = 0;
-    while t < plan.count {
-        let job = state.jobs[t];
+    while t < count {
+        let job = jobs[t];
         let phase = job.phase;
-        wrong[t] = is_active(phase) & (job.age == plan.tasks[t].period) & !finished[t];
+        wrong[t] = is_active(phase) & (job.age == tasks[t].period) & !finished[t];
         t += 1;
     }
     wrong
@@ -294,21 +302,29 @@ impl State {
         requires { ⌜ (checkedPlan plan ≡ Accepted) × (wellMade plan self ≡ true) ⌝ }
         ensures { λ r. ⌜ r ≡ nextState plan finished released self ⌝ }
     {
-        let after = self.finish(plan, finished);
-        let ran = after.mark_late(plan).release(plan, released).run(plan);
-        ran.count_preempted(plan, after).age(plan)
+        let count = plan.count;
+        let tasks = plan.tasks;
+        let after = self.finish(count, finished);
+        let jobs = after.jobs;
+        let last = after.last;
+        let ran = after
+            .mark_late(count, tasks)
+            .release(plan, released)
+            .run(plan);
+        ran.count_preempted(plan.cores, jobs, last)
+            .age(count, tasks)
     }
 
     // Rule 1: a finished task ends its job.
-    fn finish(mut self, plan: Plan, finished: Tasks) -> State
-        requires { ⌜ plan .count ≤ 64 ⌝ }
-        ensures { λ r. ⌜ r ≡ finish plan finished self ⌝ }
+    fn finish(mut self, count: usize, finished: Tasks) -> State
+        requires { ⌜ count ≤ 64 ⌝ }
+        ensures { λ r. ⌜ ((p : Plan) → p .count ≡ count → r ≡ finish p finished self) ⌝ }
     {
         let marks = marks(finished);
         let empty = no_job();
         let mut jobs = [empty; 64];
         let mut i = 0;
-        while i < plan.count {
+        while i < count {
             jobs[i] = finished_job(self.jobs[i], marks[i]);
             i += 1;
         }
@@ -317,18 +333,18 @@ impl State {
     }
 
     // Rule 2: each active job with age = d and no late mark is marked and counted late.
-    fn mark_late(mut self, plan: Plan) -> State
-        requires { ⌜ plan .count ≤ 64 ⌝ }
-        ensures { λ r. ⌜ r ≡ markLate plan self ⌝ }
+    fn mark_late(mut self, count: usize, tasks: [Task; 64]) -> State
+        requires { ⌜ count ≤ 64 ⌝ }
+        ensures { λ r. ⌜ ((p : Plan) → p .count ≡ count → p .tasks ≡ tasks → r ≡ markLate p self) ⌝ }
     {
         let empty = no_job();
         let mut jobs = [empty; 64];
         let mut late: u32 = 0;
         let mut i = 0;
-        while i < plan.count {
+        while i < count {
             let job = self.jobs[i];
             let phase = job.phase;
-            let turns = is_active(phase) & (job.age == plan.tasks[i].deadline) & !job.late;
+            let turns = is_active(phase) & (job.age == tasks[i].deadline) & !job.late;
             jobs[i] = Job {
                 phase,
                 late: turns | job.late,
@@ -422,18 +438,18 @@ impl State {
         jobs
     }
 
-    // The preemptions, `after` being the state after rule 1 and this one having what runs now.
-    fn count_preempted(mut self, plan: Plan, after: State) -> State
-        requires { ⌜ (plan .cores ≤ 16) × RanTasks plan after ⌝ }
-        ensures { λ r. ⌜ r ≡ countPreempted plan after self ⌝ }
+    // The preemptions, `jobs` and `last` being those of the state after rule 1 and this one having what runs now.
+    fn count_preempted(mut self, cores: usize, jobs: [Job; 64], last: [CoreRun; 16]) -> State
+        requires { ⌜ (cores ≤ 16) × RanTasks cores last ⌝ }
+        ensures { λ r. ⌜ ((p : Plan) (after : State) → p .cores ≡ cores → after .jobs ≡ jobs → after .last ≡ last → r ≡ countPreempted p after self) ⌝ }
     {
         let mut count: u32 = 0;
         let mut x = 0;
-        while x < plan.cores {
-            let ran = after.last[x];
+        while x < cores {
+            let ran = last[x];
             let before = ran.runner;
             let task = task_of(before);
-            let job = after.jobs[task];
+            let job = jobs[task];
             let phase = job.phase;
             let runs = self.last[x];
             let now = runs.runner;
@@ -445,21 +461,21 @@ impl State {
     }
 
     // Rule 6: ages of all tasks once released rise by 1, up to p.
-    fn age(mut self, plan: Plan) -> State
-        requires { ⌜ plan .count ≤ 64 ⌝ }
-        ensures { λ r. ⌜ r ≡ aged plan self ⌝ }
+    fn age(mut self, count: usize, tasks: [Task; 64]) -> State
+        requires { ⌜ count ≤ 64 ⌝ }
+        ensures { λ r. ⌜ ((p : Plan) → p .count ≡ count → p .tasks ≡ tasks → r ≡ aged p self) ⌝ }
     {
         let empty = no_job();
         let mut jobs = [empty; 64];
         let mut i = 0;
-        while i < plan.count {
+        while i < count {
             let job = self.jobs[i];
             let phase = job.phase;
             jobs[i] = Job {
                 phase,
                 late: job.late,
                 piece: job.piece,
-                age: older(once_released(phase), job.age, plan.tasks[i].period),
+                age: older(once_released(phase), job.age, tasks[i].period),
                 ran: job.ran,
             };
             i += 1;

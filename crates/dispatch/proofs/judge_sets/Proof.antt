@@ -1,4 +1,4 @@
-use mathlib.Core.Path.{_≡_}
+use mathlib.Core.Path.{_≡_, refl}
 use borrow.Author.Needs.{needs}
 use Rattle.tasks.specs.declared.Answer.the-variants.{Accepted}
 use Rattle.tasks.specs.declared.Refusal.the-variants.{NotRun, TooSoon, StillActive}
@@ -9,12 +9,12 @@ use Rattle.dispatch.proofs.judge_sets.Statement.{statement}
 use Rattle.dispatch.proofs.judge_sets.Tie as tie
 
 -- every finished task ran in the tick before
-ran : (c : tie.Else1) → let a = c .before .before .before .before .args in Accepted ≡ lowest (a .finished) (notRun (a .plan) (a .state)) (λ t. NotRun t)
-ran c = let b = c .before .before .before in let a = b .before .args in lowest-accepted (a .finished) (notRun (a .plan) (a .state)) (λ t. NotRun t) _ _ (b .marks .ensures) (c .before .before .not-run .ensures) _ (c .before .lowest-wrong .ensures) (c .if1 .left)
+ran : (c : tie.Else1) → let a = c .before .before .before .before .before .before .before .args in Accepted ≡ lowest (a .finished) (notRun (a .plan) (a .state)) (λ t. NotRun t)
+ran c = let b = c .before .before .before in let a = b .before .before .before .before .args in lowest-accepted (a .finished) (notRun (a .plan) (a .state)) (λ t. NotRun t) _ _ (b .marks .ensures) (c .before .before .not-run .ensures (a .plan) (a .state) refl refl refl) _ (c .before .lowest-wrong .ensures) (c .if1 .left)
 
 -- no released task is too soon
-in-time : (c : tie.Else2) → let a = c .before .before .before .before .before .before .before .before .args in Accepted ≡ lowest (a .released) (tooSoon (a .plan) (finish (a .plan) (a .finished) (a .state))) (λ t. TooSoon t)
-in-time c = let m = c .before .before .before in let a = m .before .before .before .before .before .args in lowest-accepted (a .released) (tooSoon (a .plan) (finish (a .plan) (a .finished) (a .state))) (λ t. TooSoon t) _ _ (m .marks2 .ensures) (c .before .before .too-soon .ensures (a .finished)) _ (c .before .lowest-wrong2 .ensures) (c .if2 .left)
+in-time : (c : tie.Else2) → let a = c .before .before .before .before .before .before .before .before .before .before .before .args in Accepted ≡ lowest (a .released) (tooSoon (a .plan) (finish (a .plan) (a .finished) (a .state))) (λ t. TooSoon t)
+in-time c = let m = c .before .before .before in let a = m .before .before .before .before .before .before .before .before .args in lowest-accepted (a .released) (tooSoon (a .plan) (finish (a .plan) (a .finished) (a .state))) (λ t. TooSoon t) _ _ (m .marks2 .ensures) (c .before .before .too-soon .ensures (a .plan) (a .state) (a .finished) refl refl refl) _ (c .before .lowest-wrong2 .ensures) (c .if2 .left)
 
 marks-requires : tie.Need-marks-requires
 marks-requires c κs = search needs
@@ -25,15 +25,15 @@ not-run-requires c κs = search needs
 lowest-wrong-requires : tie.Need-lowest-wrong-requires
 lowest-wrong-requires c κs = search needs
 
-cast-t12 : tie.Need-cast-t12
-cast-t12 c = search needs
+cast-t15 : tie.Need-cast-t15
+cast-t15 c = search needs
 
 returns : tie.Need-returns
 unfolding judgedSets
 returns c =
     let b = c .before .before .before in
-    let a = b .before .args in
-    rw (← lowest-refused (a .finished) (notRun (a .plan) (a .state)) (λ t. NotRun t) _ _ (b .marks .ensures) (c .before .before .not-run .ensures) _ (c .before .lowest-wrong .ensures) (c .if1 .taken))
+    let a = b .before .before .before .before .args in
+    rw (← lowest-refused (a .finished) (notRun (a .plan) (a .state)) (λ t. NotRun t) _ _ (b .marks .ensures) (c .before .before .not-run .ensures (a .plan) (a .state) refl refl refl) _ (c .before .lowest-wrong .ensures) (c .if1 .taken))
 
 marks-requires-2 : tie.Need-marks-requires-2
 marks-requires-2 c κs = search needs
@@ -44,15 +44,15 @@ too-soon-requires c κs = search needs
 lowest-wrong-requires-2 : tie.Need-lowest-wrong-requires-2
 lowest-wrong-requires-2 c κs = search needs
 
-cast-t15 : tie.Need-cast-t15
-cast-t15 c = search needs
+cast-t18 : tie.Need-cast-t18
+cast-t18 c = search needs
 
 returns-2 : tie.Need-returns-2
 unfolding judgedSets
 returns-2 c =
     let m = c .before .before .before in
-    let a = m .before .before .before .before .before .args in
-    rw (← ran (m .before), ← lowest-refused (a .released) (tooSoon (a .plan) (finish (a .plan) (a .finished) (a .state))) (λ t. TooSoon t) _ _ (m .marks2 .ensures) (c .before .before .too-soon .ensures (a .finished)) _ (c .before .lowest-wrong2 .ensures) (c .if2 .taken))
+    let a = m .before .before .before .before .before .before .before .before .args in
+    rw (← ran (m .before), ← lowest-refused (a .released) (tooSoon (a .plan) (finish (a .plan) (a .finished) (a .state))) (λ t. TooSoon t) _ _ (m .marks2 .ensures) (c .before .before .too-soon .ensures (a .plan) (a .state) (a .finished) refl refl refl) _ (c .before .lowest-wrong2 .ensures) (c .if2 .taken))
 
 still-active-requires : tie.Need-still-active-requires
 still-active-requires c κs = search needs
@@ -60,8 +60,8 @@ still-active-requires c κs = search needs
 lowest-wrong-requires-3 : tie.Need-lowest-wrong-requires-3
 lowest-wrong-requires-3 c κs = search needs
 
-cast-t18 : tie.Need-cast-t18
-cast-t18 c = search needs
+cast-t21 : tie.Need-cast-t21
+cast-t21 c = search needs
 
 returns-3 : tie.Need-returns-3
 unfolding judgedSets
@@ -69,8 +69,8 @@ returns-3 c =
     let e = c .before .before .before in
     let m = e .before .before .before in
     let b = m .before .before .before .before in
-    let a = b .before .args in
-    rw (← ran (m .before), ← in-time e, ← lowest-refused (a .released) (stillActive (a .plan) (finish (a .plan) (a .finished) (a .state))) (λ t. StillActive t) _ _ (m .marks2 .ensures) (c .before .before .still-active .ensures (a .finished) (b .marks .ensures)) _ (c .before .lowest-wrong3 .ensures) (c .if3 .taken))
+    let a = b .before .before .before .before .args in
+    rw (← ran (m .before), ← in-time e, ← lowest-refused (a .released) (stillActive (a .plan) (finish (a .plan) (a .finished) (a .state))) (λ t. StillActive t) _ _ (m .marks2 .ensures) (c .before .before .still-active .ensures (a .plan) (a .state) (a .finished) refl refl refl (b .marks .ensures)) _ (c .before .lowest-wrong3 .ensures) (c .if3 .taken))
 
 returns-4 : tie.Need-returns-4
 unfolding judgedSets
@@ -78,8 +78,8 @@ returns-4 c =
     let e = c .before .before .before in
     let m = e .before .before .before in
     let b = m .before .before .before .before in
-    let a = b .before .args in
-    rw (← ran (m .before), ← in-time e, ← lowest-accepted (a .released) (stillActive (a .plan) (finish (a .plan) (a .finished) (a .state))) (λ t. StillActive t) _ _ (m .marks2 .ensures) (c .before .before .still-active .ensures (a .finished) (b .marks .ensures)) _ (c .before .lowest-wrong3 .ensures) (c .if3 .left))
+    let a = b .before .before .before .before .args in
+    rw (← ran (m .before), ← in-time e, ← lowest-accepted (a .released) (stillActive (a .plan) (finish (a .plan) (a .finished) (a .state))) (λ t. StillActive t) _ _ (m .marks2 .ensures) (c .before .before .still-active .ensures (a .plan) (a .state) (a .finished) refl refl refl (b .marks .ensures)) _ (c .before .lowest-wrong3 .ensures) (c .if3 .left))
 
 pub judge-sets-spec : {M : Type 1} → statement M
 judge-sets-spec =
@@ -88,15 +88,15 @@ judge-sets-spec =
     marks-requires
     not-run-requires
     lowest-wrong-requires
-    cast-t12
+    cast-t15
     returns
     marks-requires-2
     too-soon-requires
     lowest-wrong-requires-2
-    cast-t15
+    cast-t18
     returns-2
     still-active-requires
     lowest-wrong-requires-3
-    cast-t18
+    cast-t21
     returns-3
     returns-4)

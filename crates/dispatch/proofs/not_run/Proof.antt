@@ -5,24 +5,24 @@ use native.Mathlib.Omega.{arith}
 use borrow.Author.Needs.{needs}
 use Rattle.tasks.proofs.Tabulate.{tabulate-start}
 use Rattle.tasks.specs.Below.{tabulate}
-use Rattle.dispatch.proofs.Judging.{notRunOn, none-run, run-more}
+use Rattle.dispatch.proofs.Judging.{notRunOn, none-run, run-more, run-all}
 use Rattle.dispatch.proofs.not_run.Statement.{statement}
 use Rattle.dispatch.proofs.not_run.Tie as tie
 
 abbrev Inv-loop : tie.InvT-loop
-Inv-loop plan state wrong₀ x₀ wrong x = (x ≤ plan .cores) × (plan .cores ≤ 16) × (wrong ≡ tabulate 256 (notRunOn plan state x))
+Inv-loop count cores last wrong₀ x₀ wrong x = (x ≤ cores) × (cores ≤ 16) × (wrong ≡ tabulate 256 (notRunOn count last x))
 
 abbrev μ-loop : tie.MeasureT-loop
-μ-loop plan state wrong₀ x₀ wrong x = plan .cores - x
+μ-loop count cores last wrong₀ x₀ wrong x = cores - x
 
 loop-holds : tie.Need-loop-holds Inv-loop μ-loop
-loop-holds c = (search needs, search needs, tabulate-start 256 true _ (none-run (c .args .plan) (c .args .t2)))
+loop-holds c = (search needs, search needs, tabulate-start 256 true _ (none-run (c .args .count) (c .args .t3)))
 
 mul-core : tie.Need-mul-core Inv-loop μ-loop
 mul-core c = search needs
 
-element-copy-out-core : tie.Need-element-copy-out-core Inv-loop μ-loop
-element-copy-out-core c = search needs
+array-copy-out-core : tie.Need-array-copy-out-core Inv-loop μ-loop
+array-copy-out-core c = search needs
 
 task-of-requires : tie.Need-task-of-requires Inv-loop μ-loop
 task-of-requires c κs = search needs
@@ -44,12 +44,12 @@ loop-less c = search needs
 
 loop-again : tie.Need-loop-again Inv-loop μ-loop
 loop-again c =
-    let b = c .before .before .before .before .before .before in
-    let t = c .before .before .task-of in
-    (search needs, search needs, run-more (b .before .args .plan) (b .before .args .t2) (b .loop .wrong) (b .loop .x) (t .result) _ _ (b .loop .inv .2) (t .ensures .0) (t .ensures .1) (c .before .is-running .ensures) refl)
+    let b = c .before .before .before .before in
+    let t = c .before .task-of in
+    (search needs, search needs, run-more (b .before .args .count) (b .before .args .t3) (b .loop .wrong) (b .loop .x) (t .result) _ _ (b .loop .inv .2) (t .ensures .0) (t .ensures .1) (c .is-running .ensures) refl)
 
 returns : tie.Need-returns Inv-loop μ-loop
-returns c = let e : c .before .before .loop .x ≡ c .before .before .before .args .plan .cores = omega arith in simp (c .before .before .loop .inv .2, e)
+returns c = λ p s h k l. let e : c .before .loop .x ≡ c .before .before .args .cores = omega arith in rw (c .before .loop .inv .2, e, ← k) (run-all _ _ p s h l)
 
 pub not-run-spec : {M : Type 1} → statement M
 not-run-spec =
@@ -59,7 +59,7 @@ not-run-spec =
     μ-loop
     loop-holds
     mul-core
-    element-copy-out-core
+    array-copy-out-core
     task-of-requires
     array-read-wrong
     is-running-requires

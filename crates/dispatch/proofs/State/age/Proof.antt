@@ -6,16 +6,16 @@ use Rattle.tasks.proofs.Padded.{padded-turn}
 use Rattle.tasks.proofs.Tabulate.{padded-start}
 use Rattle.tasks.specs.Below.{padded}
 use Rattle.dispatch.specs.Jobs.{noJob, jobOf}
-use Rattle.dispatch.specs.Rules.{agedJob, age, eachJob}
-use Rattle.dispatch.proofs.Reading.{aged-read}
+use Rattle.dispatch.specs.Rules.{age, eachJob}
+use Rattle.dispatch.proofs.Reading.{agedAt, aged-read}
 use Rattle.dispatch.proofs.State.age.Statement.{statement}
 use Rattle.dispatch.proofs.State.age.Tie as tie
 
 abbrev Inv-loop : tie.InvT-loop
-Inv-loop self plan jobs₀ i₀ jobs i = (i ≤ plan .count) × (plan .count ≤ 64) × (jobs ≡ padded 64 i noJob (λ k. agedJob plan k (jobOf self k)))
+Inv-loop count self tasks jobs₀ i₀ jobs i = (i ≤ count) × (count ≤ 64) × (jobs ≡ padded 64 i noJob (λ k. agedAt tasks k (jobOf self k)))
 
 abbrev μ-loop : tie.MeasureT-loop
-μ-loop self plan jobs₀ i₀ jobs i = plan .count - i
+μ-loop count self tasks jobs₀ i₀ jobs i = count - i
 
 no-job-requires : tie.Need-no-job-requires Inv-loop μ-loop
 no-job-requires c κs = search needs
@@ -54,11 +54,11 @@ loop-less : tie.Need-loop-less Inv-loop μ-loop
 loop-less c = search needs
 
 loop-again : tie.Need-loop-again Inv-loop μ-loop
-loop-again c = let b = c .before .before .before .before in let a = b .before .before .args in (search needs, search needs, padded-turn 64 noJob _ _ _ _ (search needs) (b .loop .inv .2) (aged-read (a .t2) (b .loop .i) (jobOf (a .t1) (b .loop .i)) _ _ (c .before .once-released .ensures) (c .older .ensures)))
+loop-again c = let b = c .before .before .before .before in let a = b .before .before .args in (search needs, search needs, padded-turn 64 noJob _ _ _ _ (search needs) (b .loop .inv .2) (aged-read (a .t3) (b .loop .i) (jobOf (a .t1) (b .loop .i)) _ _ (c .before .once-released .ensures) (c .older .ensures)))
 
 returns : tie.Need-returns Inv-loop μ-loop
 unfolding age eachJob
-returns c = let e : c .before .loop .i ≡ c .before .before .before .args .t2 .count = omega arith in simp (c .before .loop .inv .2, e)
+returns c = λ p h q. let e : c .before .loop .i ≡ c .before .before .before .args .count = omega arith in simp (c .before .loop .inv .2, e, h, q)
 
 pub age-spec : {M : Type 1} → statement M
 age-spec =

@@ -15,10 +15,10 @@ use Rattle.dispatch.proofs.State.finish.Statement.{statement}
 use Rattle.dispatch.proofs.State.finish.Tie as tie
 
 abbrev Inv-loop : tie.InvT-loop
-Inv-loop plan self marks jobs₀ i₀ jobs i = (i ≤ plan .count) × (plan .count ≤ 64) × ((fs : Tasks) → marks ≡ tabulate 256 (member fs) → jobs ≡ padded 64 i noJob (λ k. finishedJob fs k (jobOf self k)))
+Inv-loop count self marks jobs₀ i₀ jobs i = (i ≤ count) × (count ≤ 64) × ((fs : Tasks) → marks ≡ tabulate 256 (member fs) → jobs ≡ padded 64 i noJob (λ k. finishedJob fs k (jobOf self k)))
 
 abbrev μ-loop : tie.MeasureT-loop
-μ-loop plan self marks jobs₀ i₀ jobs i = plan .count - i
+μ-loop count self marks jobs₀ i₀ jobs i = count - i
 
 marks-requires : tie.Need-marks-requires Inv-loop μ-loop
 marks-requires c κs = search needs
@@ -54,11 +54,11 @@ loop-less : tie.Need-loop-less Inv-loop μ-loop
 loop-less c = search needs
 
 loop-again : tie.Need-loop-again Inv-loop μ-loop
-loop-again c = (search needs, search needs, λ fs e. padded-turn 64 noJob _ _ _ _ (search needs) (c .before .before .before .before .loop .inv .2 fs e) (c .finished-job .ensures fs _ (tabulated 256 (member fs) _ _ false e (omega arith))))
+loop-again c = (search needs, search needs, λ fs e. padded-turn 64 noJob _ _ _ _ (search needs) (c .before .before .before .loop .inv .2 fs e) (c .finished-job .ensures fs _ (tabulated 256 (member fs) _ _ false e (omega arith))))
 
 returns : tie.Need-returns Inv-loop μ-loop
 unfolding finish eachJob
-returns c = let e : c .before .before .loop .i ≡ c .before .before .before .before .before .args .plan .count = omega arith in simp (c .before .before .loop .inv .2 _ (c .before .before .before .before .marks .ensures), e)
+returns c = λ p h. let e : c .before .loop .i ≡ c .before .before .before .before .args .count = omega arith in simp (c .before .loop .inv .2 _ (c .before .before .before .marks .ensures), e, h)
 
 pub finish-spec : {M : Type 1} → statement M
 finish-spec =

@@ -4,25 +4,25 @@ use native.Mathlib.Omega.{arith}
 use borrow.Author.Needs.{needs}
 use Rattle.tasks.proofs.Padded.{padded-turn}
 use Rattle.tasks.proofs.Tabulate.{padded-start}
-use Rattle.tasks.specs.Below.{sum, count, padded}
+use Rattle.tasks.specs.Below.{sum, count as counted, padded}
 use Rattle.dispatch.specs.Jobs.{noJob, jobOf}
-use Rattle.dispatch.specs.Rules.{turnsLate, markedJob, markLate, eachJob}
-use Rattle.dispatch.proofs.Reading.{turns-read, marked-read}
+use Rattle.dispatch.specs.Rules.{markLate, eachJob}
+use Rattle.dispatch.proofs.Reading.{turnsAt, markedAt, turns-read, marked-read}
 use Rattle.dispatch.proofs.Walks.{count-turn}
 use Rattle.dispatch.proofs.State.mark_late.Statement.{statement}
 use Rattle.dispatch.proofs.State.mark_late.Tie as tie
 
 abbrev Inv-loop : tie.InvT-loop
-Inv-loop self plan jobs₀ late₀ i₀ jobs late i = (i ≤ plan .count) × (plan .count ≤ 64) × (late ≤ i) × (late ≡ count i (λ k. turnsLate plan k (jobOf self k))) × (jobs ≡ padded 64 i noJob (λ k. markedJob plan k (jobOf self k)))
+Inv-loop count self tasks jobs₀ late₀ i₀ jobs late i = (i ≤ count) × (count ≤ 64) × (late ≤ i) × (late ≡ counted i (λ k. turnsAt tasks k (jobOf self k))) × (jobs ≡ padded 64 i noJob (λ k. markedAt tasks k (jobOf self k)))
 
 abbrev μ-loop : tie.MeasureT-loop
-μ-loop self plan jobs₀ late₀ i₀ jobs late i = plan .count - i
+μ-loop count self tasks jobs₀ late₀ i₀ jobs late i = count - i
 
 no-job-requires : tie.Need-no-job-requires Inv-loop μ-loop
 no-job-requires c κs = search needs
 
 loop-holds : tie.Need-loop-holds Inv-loop μ-loop
-unfolding count sum
+unfolding counted sum
 loop-holds c = (search needs, search needs, search needs, refl, rw (c .no-job .ensures) (padded-start 64 noJob _))
 
 mul-job : tie.Need-mul-job Inv-loop μ-loop
@@ -61,17 +61,17 @@ loop-less c = search needs
 loop-again : tie.Need-loop-again Inv-loop μ-loop
 loop-again c =
     let b = c .before .before .before .before .before .before .before in
-    let p = b .before .before .args .t2 in
+    let ts = b .before .before .args .t3 in
     let j = jobOf (b .before .before .args .t1) (b .loop .i) in
-    let h = turns-read p (b .loop .i) j _ (c .before .before .before .before .is-active .ensures) in
-    (search needs, search needs, omega arith, count-turn _ _ _ _ _ (b .loop .inv .3) (c .one-if .ensures .0) h, padded-turn 64 noJob _ _ _ _ (search needs) (b .loop .inv .4) (marked-read p (b .loop .i) j _ h))
+    let h = turns-read ts (b .loop .i) j _ (c .before .before .before .before .is-active .ensures) in
+    (search needs, search needs, omega arith, count-turn _ _ _ _ _ (b .loop .inv .3) (c .one-if .ensures .0) h, padded-turn 64 noJob _ _ _ _ (search needs) (b .loop .inv .4) (marked-read ts (b .loop .i) j _ h))
 
 total-requires : tie.Need-total-requires Inv-loop μ-loop
 total-requires c κs = search needs
 
 returns : tie.Need-returns Inv-loop μ-loop
 unfolding markLate eachJob
-returns c = let b = c .before .before in let e : b .loop .i ≡ b .before .before .args .t2 .count = omega arith in simp (c .total .ensures, b .loop .inv .4, b .loop .inv .3, e)
+returns c = λ p h q. let b = c .before .before in let e : b .loop .i ≡ b .before .before .args .count = omega arith in simp (c .total .ensures, b .loop .inv .4, b .loop .inv .3, e, h, q)
 
 pub mark-late-spec : {M : Type 1} → statement M
 mark-late-spec =

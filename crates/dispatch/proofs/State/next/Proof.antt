@@ -1,3 +1,4 @@
+use mathlib.Core.Path.{refl}
 use Rattle.dispatch.specs.Tick.{nextState}
 use Rattle.dispatch.proofs.Checked.{good, sound}
 use Rattle.dispatch.proofs.Steps.{ready-pieces, finish-tasks}
@@ -5,26 +6,29 @@ use Rattle.dispatch.proofs.State.next.Statement.{statement}
 use Rattle.dispatch.proofs.State.next.Tie as tie
 
 finish-requires : tie.Need-finish-requires
-finish-requires c κs = good (c .args .plan) (c .pre .0) .count
+finish-requires c κs = good (c .before .args .plan) (c .before .pre .0) .count
 
 mark-late-requires : tie.Need-mark-late-requires
-mark-late-requires c κs = good (c .before .args .plan) (c .before .pre .0) .count
+mark-late-requires c κs = let s = c .before .before .before .before in good (s .args .plan) (s .pre .0) .count
 
 release-requires : tie.Need-release-requires
-release-requires c κs = let g = good (c .before .before .args .plan) (c .before .before .pre .0) in (g .count, g .placed)
+release-requires c κs = let s = c .before .before .before .before .before in let g = good (s .args .plan) (s .pre .0) in (g .count, g .placed)
 
 run-requires : tie.Need-run-requires
-run-requires c κs = let s = c .before .before .before in let g = good (c .before .before .before .args .plan) (c .before .before .before .pre .0) in (sound (s .args .plan) g, rw (c .release .ensures, c .before .mark-late .ensures, c .before .before .finish .ensures) (ready-pieces (s .args .plan) g (s .args .finished) (s .args .released) (s .args .self) (s .pre .1)))
+run-requires c κs = let s = c .before .before .before .before .before .before in let p = s .args .plan in let g = good p (s .pre .0) in (sound p g, rw (c .release .ensures, c .before .mark-late .ensures p refl refl, c .before .before .before .before .finish .ensures p refl) (ready-pieces p g (s .args .finished) (s .args .released) (s .args .self) (s .pre .1)))
 
 count-preempted-requires : tie.Need-count-preempted-requires
-count-preempted-requires c κs = let s = c .before .before .before .before in let g = good (c .before .before .before .before .args .plan) (c .before .before .before .before .pre .0) in (g .cores, rw (c .before .before .before .finish .ensures) (finish-tasks (s .args .plan) g (s .args .finished) (s .args .self) (s .pre .1)))
+count-preempted-requires c κs = let s = c .before .before .before .before .before .before .before in let p = s .args .plan in let g = good p (s .pre .0) in (g .cores, rw (c .before .before .before .before .before .finish .ensures p refl) (finish-tasks p g (s .args .finished) (s .args .self) (s .pre .1)))
 
 age-requires : tie.Need-age-requires
-age-requires c κs = good (c .before .before .before .before .before .args .plan) (c .before .before .before .before .before .pre .0) .count
+age-requires c κs = let s = c .before .before .before .before .before .before .before .before in good (s .args .plan) (s .pre .0) .count
 
 returns : tie.Need-returns
 unfolding nextState
-returns c = simp (c .age .ensures, c .before .count-preempted .ensures, c .before .before .run .ensures, c .before .before .before .release .ensures, c .before .before .before .before .mark-late .ensures, c .before .before .before .before .before .finish .ensures)
+returns c =
+    let f = c .before .before .before .before .before .before .before in
+    let p = f .before .before .args .plan in
+    simp (c .age .ensures p refl refl, c .before .count-preempted .ensures p (f .finish .result) refl refl refl, c .before .before .run .ensures, c .before .before .before .release .ensures, c .before .before .before .before .mark-late .ensures p refl refl, f .finish .ensures p refl)
 
 pub next-spec : {M : Type 1} → statement M
 next-spec =
