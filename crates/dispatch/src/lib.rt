@@ -92,7 +92,7 @@ pub fn fresh() -> State
 pub fn well_made(plan: Plan, state: State) -> bool
     ensures { λ r. ⌜ r ≡ wellMade plan state ⌝ }
 {
-    jobs_well_made(plan, state) & cores_well_made(plan, state)
+    jobs_well_made(plan, state) & cores_well_made(plan.count, plan.cores, state)
 }
 
 // One tick, for any plan, any state and any two sets: the rules in their order, or a refusal.
@@ -253,11 +253,11 @@ fn jobs_well_made(plan: Plan, state: State) -> bool
 }
 
 // Is each core's last task none or a task once released, and none on two cores?
-fn cores_well_made(plan: Plan, state: State) -> bool
-    ensures { λ r. ⌜ r ≡ all (plan .cores) (coreWellMade plan state) ⌝ }
+fn cores_well_made(count: usize, cores: usize, state: State) -> bool
+    ensures { λ r. ⌜ ((p : Plan) → p .count ≡ count → p .cores ≡ cores → r ≡ all (p .cores) (coreWellMade p state)) ⌝ }
 {
-    let count = smaller(plan.count, 64);
-    let cores = smaller(plan.cores, 16);
+    let count = smaller(count, 64);
+    let cores = smaller(cores, 16);
     let mut seen = [false; 256];
     let mut good = true;
     let mut x = 0;
@@ -307,9 +307,10 @@ impl State {
         let after = self.finish(count, finished);
         let jobs = after.jobs;
         let last = after.last;
+        let firsts = first_pieces(plan);
         let ran = after
             .mark_late(count, tasks)
-            .release(plan, released)
+            .release(count, firsts, released)
             .run(plan);
         ran.count_preempted(plan.cores, jobs, last)
             .age(count, tasks)
@@ -361,16 +362,15 @@ impl State {
     }
 
     // Rule 3: each released task becomes active, age 0, first piece.
-    fn release(mut self, plan: Plan, released: Tasks) -> State
-        requires { ⌜ (plan .count ≤ 64) × (plan .placed ≤ 128) ⌝ }
-        ensures { λ r. ⌜ r ≡ release plan released self ⌝ }
+    fn release(mut self, count: usize, firsts: [u8; 256], released: Tasks) -> State
+        requires { ⌜ count ≤ 64 ⌝ }
+        ensures { λ r. ⌜ ((p : Plan) → p .count ≡ count → firsts ≡ tabulate 256 (firstPiece p) → r ≡ release p released self) ⌝ }
     {
         let marks = marks(released);
-        let firsts = first_pieces(plan);
         let empty = no_job();
         let mut jobs = [empty; 64];
         let mut i = 0;
-        while i < plan.count {
+        while i < count {
             jobs[i] = released_job(self.jobs[i], marks[i], firsts[i]);
             i += 1;
         }

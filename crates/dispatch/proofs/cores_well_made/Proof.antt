@@ -15,10 +15,10 @@ use Rattle.dispatch.proofs.cores_well_made.Statement.{statement}
 use Rattle.dispatch.proofs.cores_well_made.Tie as tie
 
 abbrev Inv-loop : tie.InvT-loop
-Inv-loop state count cores seen₀ good₀ x₀ seen good x = (x ≤ cores) × (cores ≤ 16) × (seen ≡ tabulate 256 (λ t. any x (λ y. names t (lastOf state y)))) × ((p : Plan) → count ≡ min (p .count) 64 → good ≡ all x (coreWellMade p state))
+Inv-loop all-tasks all-cores state count cores seen₀ good₀ x₀ seen good x = (x ≤ cores) × (cores ≤ 16) × (seen ≡ tabulate 256 (λ t. any x (λ y. names t (lastOf state y)))) × ((p : Plan) → count ≡ min (p .count) 64 → good ≡ all x (coreWellMade p state))
 
 abbrev μ-loop : tie.MeasureT-loop
-μ-loop state count cores seen₀ good₀ x₀ seen good x = cores - x
+μ-loop all-tasks all-cores state count cores seen₀ good₀ x₀ seen good x = cores - x
 
 smaller-requires : tie.Need-smaller-requires Inv-loop μ-loop
 smaller-requires c κs = search needs
@@ -72,8 +72,8 @@ loop-less c = search needs
 loop-again : tie.Need-loop-again Inv-loop μ-loop
 loop-again c =
     let b = c .before .before .before .before .before .before .before in
-    let s = b .before .before .before .args .t2 in
-    let l : length (s .jobs) ≡ 64 = simp length-map at (c .before .before .before .before .before .before .before .before .before .before .good .1 .0 .1 .1 .0 .1 .0 .1) in
+    let s = b .before .before .before .args .t3 in
+    let l : length (s .jobs) ≡ 64 = simp length-map at (c .before .before .before .before .before .before .before .before .before .before .good .1 .1 .0 .1 .1 .0 .1 .0 .1) in
     let t = c .before .before .before .task-of in
     let on = c .before .before .before .before .is-running .ensures in
     let ran = ran-more 256 (lastOf s) (b .loop .seen) (b .loop .x) (t .result) _ (b .loop .inv .2) (t .ensures .0) (t .ensures .1) (ap (λ (w : Bool). getD (b .loop .seen) (t .result) false || w) on) in
@@ -81,11 +81,11 @@ loop-again c =
     (search needs, search needs, ran, λ p e. all-turn _ _ _ _ (b .loop .inv .3 p e) (core-says s p (b .loop .x) _ (t .result) _ _ _ _ l (t .ensures .0) e (c .before .before .smaller3 .ensures) on (c .once-released .ensures) before))
 
 returns : tie.Need-returns Inv-loop μ-loop
-returns c =
+returns c = λ p h k.
     let s = c .before .before .before .before in
-    let l : length (s .args .t2 .last) ≡ 16 = simp length-map at (s .good .1 .0 .1 .1 .1 .0 .1 .0 .1) in
-    let e : c .before .loop .x ≡ min (s .args .plan .cores) 16 = omega (arith, c .before .before .smaller2 .ensures) in
-    rw (c .before .loop .inv .3 (s .args .plan) (c .before .before .before .smaller .ensures), e) (cores-read (s .args .t2) (s .args .plan) l)
+    let l : length (s .args .t3 .last) ≡ 16 = simp length-map at (s .good .1 .1 .0 .1 .1 .1 .0 .1 .0 .1) in
+    let e : c .before .loop .x ≡ min (p .cores) 16 = omega (arith, k, c .before .before .smaller2 .ensures) in
+    rw (c .before .loop .inv .3 p (omega (arith, h, c .before .before .before .smaller .ensures)), e) (cores-read (s .args .t3) p l)
 
 pub cores-well-made-spec : {M : Type 1} → statement M
 cores-well-made-spec =

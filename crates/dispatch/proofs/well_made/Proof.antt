@@ -1,3 +1,4 @@
+use mathlib.Core.Path.{refl}
 use borrow.Author.Needs.{needs}
 use Rattle.dispatch.specs.WellMade.{wellMade}
 use Rattle.dispatch.proofs.well_made.Statement.{statement}
@@ -11,7 +12,7 @@ cores-well-made-requires c κs = search needs
 
 returns : tie.Need-returns
 unfolding wellMade
-returns c = simp (c .before .jobs-well-made .ensures, c .cores-well-made .ensures)
+returns c = simp (c .before .jobs-well-made .ensures, c .cores-well-made .ensures (c .before .before .args .plan) refl refl)
 
 pub well-made-spec : {M : Type 1} → statement M
 well-made-spec = tie.close (tie.spec jobs-well-made-requires cores-well-made-requires returns)

@@ -6,6 +6,7 @@ use borrow.Author.Needs.{needs}
 use Rattle.tasks.proofs.Padded.{padded-turn}
 use Rattle.tasks.proofs.Tabulate.{padded-start}
 use Rattle.tasks.specs.Below.{tabulate, padded}
+use Rattle.plans.specs.declared.Plan.{Plan}
 use Rattle.dispatch.specs.Jobs.{noJob, jobOf}
 use Rattle.dispatch.specs.Rules.{firstPiece, releasedJob, release, eachJob}
 use Rattle.dispatch.specs.Sets.{member}
@@ -15,22 +16,19 @@ use Rattle.dispatch.proofs.State.release.Statement.{statement}
 use Rattle.dispatch.proofs.State.release.Tie as tie
 
 abbrev Inv-loop : tie.InvT-loop
-Inv-loop plan self marks firsts jobs₀ i₀ jobs i = (i ≤ plan .count) × (plan .count ≤ 64) × ((rs : Tasks) → marks ≡ tabulate 256 (member rs) → firsts ≡ tabulate 256 (firstPiece plan) → jobs ≡ padded 64 i noJob (λ k. releasedJob plan rs k (jobOf self k)))
+Inv-loop count self firsts marks jobs₀ i₀ jobs i = (i ≤ count) × (count ≤ 64) × ((p : Plan) (rs : Tasks) → marks ≡ tabulate 256 (member rs) → firsts ≡ tabulate 256 (firstPiece p) → jobs ≡ padded 64 i noJob (λ k. releasedJob p rs k (jobOf self k)))
 
 abbrev μ-loop : tie.MeasureT-loop
-μ-loop plan self marks firsts jobs₀ i₀ jobs i = plan .count - i
+μ-loop count self firsts marks jobs₀ i₀ jobs i = count - i
 
 marks-requires : tie.Need-marks-requires Inv-loop μ-loop
 marks-requires c κs = search needs
-
-first-pieces-requires : tie.Need-first-pieces-requires Inv-loop μ-loop
-first-pieces-requires c κs = search needs
 
 no-job-requires : tie.Need-no-job-requires Inv-loop μ-loop
 no-job-requires c κs = search needs
 
 loop-holds : tie.Need-loop-holds Inv-loop μ-loop
-loop-holds c = (search needs, search needs, λ rs e h. rw (c .no-job .ensures) (padded-start 64 noJob _))
+loop-holds c = (search needs, search needs, λ p rs e h. rw (c .no-job .ensures) (padded-start 64 noJob _))
 
 mul-released-job : tie.Need-mul-released-job Inv-loop μ-loop
 mul-released-job c = search needs
@@ -60,11 +58,11 @@ loop-less : tie.Need-loop-less Inv-loop μ-loop
 loop-less c = search needs
 
 loop-again : tie.Need-loop-again Inv-loop μ-loop
-loop-again c = (search needs, search needs, λ rs e h. padded-turn 64 noJob _ _ _ _ (search needs) (c .before .before .before .before .loop .inv .2 rs e h) (c .released-job .ensures _ rs _ (tabulated 256 (member rs) _ _ false e (omega arith)) (tabulated 256 (firstPiece _) _ _ 0 h (omega arith))))
+loop-again c = (search needs, search needs, λ p rs e h. padded-turn 64 noJob _ _ _ _ (search needs) (c .before .before .before .loop .inv .2 p rs e h) (c .released-job .ensures p rs _ (tabulated 256 (member rs) _ _ false e (omega arith)) (tabulated 256 (firstPiece p) _ _ 0 h (omega arith))))
 
 returns : tie.Need-returns Inv-loop μ-loop
 unfolding release eachJob
-returns c = let e : c .before .before .loop .i ≡ c .before .before .before .before .before .before .args .plan .count = omega arith in simp (c .before .before .loop .inv .2 _ (c .before .before .before .before .before .marks .ensures) (c .before .before .before .before .first-pieces .ensures), e)
+returns c = λ p h q. let e : c .before .loop .i ≡ c .before .before .before .before .args .count = omega arith in simp (c .before .loop .inv .2 p _ (c .before .before .before .marks .ensures) q, e, h)
 
 pub release-spec : {M : Type 1} → statement M
 release-spec =
@@ -73,7 +71,6 @@ release-spec =
     Inv-loop
     μ-loop
     marks-requires
-    first-pieces-requires
     no-job-requires
     loop-holds
     mul-released-job
