@@ -3,19 +3,19 @@ use mathlib.Core.Path.{_≡_, refl, sym, ap, _∙_}
 use mathlib.Core.Bool.{Bool, true, false, not, _&&_, _||_, cond}
 use mathlib.Core.List.{List}
 use mathlib.Core.Logic.{_⊎_, inl, inr}
-use Prim.Native.Nat.{ℕ, _+_, _≤_, _<_}
-use native.Mathlib.Decide.{decLt}
+use Prim.Native.Nat.{ℕ, _+_, _≤_, _<_, min}
+use native.Mathlib.Decide.{ℕ-discrete, decLt}
 use native.Mathlib.Omega.{arith}
 use lib.Dec.{ltb, eqb}
 use lib.ListN.{getD, set}
-use borrow.Author.Tests.{lt-ltb, le-ltb}
+use borrow.Author.Tests.{lt-ltb, le-ltb, eq-eqb, ne-eqb}
 use Rattle.tasks.specs.Below.{any, first, tabulate, padded}
 use Rattle.tasks.specs.Tables.{noTask, taskNo}
 use Rattle.tasks.specs.declared.Answer.the-variants.{Accepted, Refused}
 use Rattle.tasks.specs.declared.Refusal.{Refusal}
 use Rattle.tasks.specs.declared.Task.{Task}
 use Rattle.tasks.specs.declared.TaskNo.{TaskNo}
-use Rattle.tasks.proofs.Below.{any-more, any-none, first-holds, first-none, first-same}
+use Rattle.tasks.proofs.Below.{any-more, any-none, first-holds, first-none, first-before, first-is, first-same}
 use Rattle.tasks.proofs.Bools.{either, not-second}
 use Rattle.tasks.proofs.Padded.{tabulate-at, padded-in}
 use Rattle.tasks.proofs.Tabulate.{tabulate-same, tabulate-turn}
@@ -33,7 +33,7 @@ use Rattle.dispatch.specs.declared.Runner.{Runner}
 use Rattle.dispatch.specs.declared.State.{State}
 use Rattle.dispatch.specs.declared.Tasks.{Tasks}
 use Rattle.dispatch.proofs.Steps.{finish-out}
-use Rattle.dispatch.proofs.Walks.{tabulated, and-one, or-none, running, not-running}
+use Rattle.dispatch.proofs.Walks.{tabulated, and-one, or-none, or-one, running, not-running}
 
 -- a list that has what f gives below n and is padded with what f gives past n is f's table
 padded-all : {A : Type 0} (size n : ℕ) (empty : A) (g f : ℕ → A) → ((t : ℕ) → t < n → g t ≡ f t) → ((t : ℕ) → n ≤ t → empty ≡ f t) → padded size n empty g ≡ tabulate size f
@@ -124,23 +124,49 @@ module _ (p : Plan) (few : p .count ≤ 64) (s : State) (fs : Tasks) where
   pub active-all : padded 256 (p .count) false (activeAt (p .tasks) (s .jobs) (tabulate 256 (member fs))) ≡ tabulate 256 (stillActive p (finish p fs s))
   active-all = padded-all 256 (p .count) false _ _ (λ t l. rw (tabulate-at 256 (member fs) t false (omega (arith, few))) (active-in p few s fs t l)) (active-past p few s fs)
 
--- one more that fails
-pub none-more : (f : ℕ → Bool) (i : ℕ) → ((j : ℕ) → j < i → f j ≡ false) → f i ≡ false → (j : ℕ) → j < i + 1 → f j ≡ false
-none-more f i h e j l = go (decLt j i)
-  where
-    go : Dec (j < i) → f j ≡ false
-    go (yes b) = h j b
-    go (no b) = let q : j ≡ i = omega arith in rw q e
-
 pub first-past : (n : ℕ) (f : ℕ → Bool) → ((j : ℕ) → j < n → f j ≡ false) → n ≡ first n f
 first-past n f h = sym (first-none n f (any-none n f h))
+
+-- one number more that passes
+first-with : (n : ℕ) (f g : ℕ → Bool) (t : ℕ) → t < n → ((i : ℕ) → (i ≡ t → ⊥) → f i ≡ g i) → g t ≡ true → min (first n f) t ≡ first n g
+first-with n f g t l same e = go (decLt (first n f) t)
+  where
+    before : (j : ℕ) → j < first n f → j < t → g j ≡ false
+    before j a b = sym (same j (λ z. omega arith)) ∙ first-before n f j a
+
+    holds : first n f < n → (any n f ≡ true) ⊎ (any n f ≡ false) → f (first n f) ≡ true
+    holds b (inl a) = first-holds n f a .1
+    holds b (inr a) = absurd (omega (arith, first-none n f a))
+
+    go : Dec (first n f < t) → min (first n f) t ≡ first n g
+    go (yes h) = let m : min (first n f) t ≡ first n f = omega arith in m ∙ sym (first-is n g (first n f) (omega arith) (sym (same (first n f) (λ z. omega arith)) ∙ holds (omega arith) (either (any n f))) (λ j b. before j b (omega arith)))
+    go (no h) = let m : min (first n f) t ≡ t = omega arith in m ∙ sym (first-is n g t l e (λ j b. before j (omega arith) b))
+
+-- the walk over a set's members: i is one of the first k and wrong
+module _ (m : ℕ → ℕ) (ws : List Bool) where
+  abbrev pub wrongIn : ℕ → ℕ → Bool
+  wrongIn k i = any k (λ j. eqb (m j) i) && getD ws i false
+
+  pub lowest-turn : (k t low r : ℕ) → low ≡ first 256 (wrongIn k) → t ≡ m k → t < 256 → r ≡ cond (getD ws t false) (min low t) low → r ≡ first 256 (wrongIn (k + 1))
+  lowest-turn k t low r e q l h = go (getD ws t false) refl
+    where
+      other : (i : ℕ) → (i ≡ t → ⊥) → wrongIn k i ≡ wrongIn (k + 1) i
+      other i d = rw any-more (ap (λ (b : Bool). b && getD ws i false) (or-none (any k (λ j. eqb (m j) i)) (ne-eqb (m k) i (λ z. d (sym z ∙ sym q)))))
+
+      each : getD ws t false ≡ false → (i : ℕ) → Dec (i ≡ t) → wrongIn k i ≡ wrongIn (k + 1) i
+      each w i (yes z) = rw (z, not-second (any k (λ j. eqb (m j) t)) w, not-second (any (k + 1) (λ j. eqb (m j) t)) w)
+      each w i (no d) = other i d
+
+      go : (b : Bool) → getD ws t false ≡ b → r ≡ first 256 (wrongIn (k + 1))
+      go true w = h ∙ rw (w, e) (first-with 256 (wrongIn k) (wrongIn (k + 1)) t l other (rw (any-more, ← or-one (any k (λ j. eqb (m j) t)) (eq-eqb (m k) t (sym q))) w))
+      go false w = h ∙ rw (w, e) (first-same 256 (wrongIn k) (wrongIn (k + 1)) (λ i b. each w i (ℕ-discrete i t)))
 
 abbrev wrong : Tasks → (ℕ → Bool) → ℕ → Bool
 wrong u bad k = member u k && bad k
 
-module _ (u : Tasks) (bad : ℕ → Bool) (say : TaskNo → Refusal) (ms ws : List Bool) (em : ms ≡ tabulate 256 (member u)) (ew : ws ≡ tabulate 256 bad) (t : ℕ) (et : t ≡ first 256 (λ k. getD ms k false && getD ws k false)) where
+module _ (u : Tasks) (bad : ℕ → Bool) (say : TaskNo → Refusal) (ws : List Bool) (ew : ws ≡ tabulate 256 bad) (t : ℕ) (et : t ≡ first 256 (λ k. member u k && getD ws k false)) where
   is-first : t ≡ first 256 (wrong u bad)
-  is-first = et ∙ first-same 256 (λ k. getD ms k false && getD ws k false) (wrong u bad) (λ k l. rw (em, ew, tabulate-at 256 (member u) k false l, tabulate-at 256 bad k false l))
+  is-first = et ∙ first-same 256 (λ k. member u k && getD ws k false) (wrong u bad) (λ k l. rw (ew, tabulate-at 256 bad k false l))
 
   -- below 256 it is the lowest that is refused
   pub lowest-refused : t < 256 → Refused (say (taskNo t)) ≡ lowest u bad say

@@ -25,7 +25,7 @@ pub or-none : (a : Bool) {b : Bool} → b ≡ false → a ≡ a || b
 or-none true h = refl
 or-none false h = sym h
 
-or-one : (a : Bool) {b : Bool} → b ≡ true → true ≡ a || b
+pub or-one : (a : Bool) {b : Bool} → b ≡ true → true ≡ a || b
 or-one true h = refl
 or-one false h = sym h
 

@@ -150,16 +150,15 @@ fn judge_sets(plan: Plan, state: State, finished: Tasks, released: Tasks) -> Ans
     let jobs = state.jobs;
     let last = state.last;
     let ended = marks(finished);
-    let idle = lowest_wrong(ended, not_run(plan.count, plan.cores, last));
+    let idle = lowest_wrong(finished, not_run(plan.count, plan.cores, last));
     if idle < 256 {
         return Answer::Refused(Refusal::NotRun(TaskNo(idle as u8)));
     }
-    let members = marks(released);
-    let soon = lowest_wrong(members, too_soon(plan.count, tasks, jobs));
+    let soon = lowest_wrong(released, too_soon(plan.count, tasks, jobs));
     if soon < 256 {
         return Answer::Refused(Refusal::TooSoon(TaskNo(soon as u8)));
     }
-    let active = lowest_wrong(members, still_active(plan.count, tasks, jobs, ended));
+    let active = lowest_wrong(released, still_active(plan.count, tasks, jobs, ended));
     if active < 256 {
         return Answer::Refused(Refusal::StillActive(TaskNo(active as u8)));
     }
@@ -167,17 +166,26 @@ fn judge_sets(plan: Plan, state: State, finished: Tasks, released: Tasks) -> Ans
 }
 
 // The lowest task that is a member of a set and wrong, or 256.
-fn lowest_wrong(members: [bool; 256], wrong: [bool; 256]) -> usize
-    ensures { λ r. ⌜ r ≡ first 256 (λ t. getD members t false && getD wrong t false) ⌝ }
+fn lowest_wrong(tasks: Tasks, wrong: [bool; 256]) -> usize
+    ensures { λ r. ⌜ r ≡ first 256 (λ t. member tasks t && getD wrong t false) ⌝ }
 {
-    let mut t = 0;
-    while t < 256 {
-        if members[t] & wrong[t] {
-            return t;
-        }
-        t += 1;
+    let count = smaller(tasks.count, 64);
+    let mut low = 256;
+    let mut k = 0;
+    while k < count {
+        let task = tasks.members[k];
+        let t = task.index();
+        low = lower(low, t, wrong[t]);
+        k += 1;
     }
-    256
+    low
+}
+
+// The lower of two tasks, the second being looked at only where it is wrong.
+fn lower(low: usize, task: usize, wrong: bool) -> usize
+    ensures { λ r. ⌜ r ≡ cond wrong (min low task) low ⌝ }
+{
+    if wrong { smaller(low, task) } else { low }
 }
 
 // Refusal 10 for each task.

@@ -1,43 +1,52 @@
-use mathlib.Core.Bool.{_&&_, false}
-use mathlib.Core.Path.{_≡_, sym}
-use Prim.Native.Nat.{ℕ, _-_, _≤_, _<_}
+use mathlib.Core.Path.{_≡_, refl}
+use Prim.Native.Nat.{min, _-_, _≤_}
 use native.Mathlib.Omega.{arith}
 use lib.ListN.{getD}
 use borrow.Author.Needs.{needs}
-use Rattle.tasks.proofs.Below.{first-is}
-use Rattle.dispatch.proofs.Judging.{none-more, first-past}
+use Rattle.tasks.specs.Below.{any, first}
+use Rattle.tasks.specs.Tables.{taskNo}
+use Rattle.dispatch.specs.Sets.{member}
+use Rattle.dispatch.proofs.Judging.{first-past, wrongIn, lowest-turn}
 use Rattle.dispatch.proofs.lowest_wrong.Statement.{statement}
 use Rattle.dispatch.proofs.lowest_wrong.Tie as tie
 
 abbrev Inv-loop : tie.InvT-loop
-Inv-loop members wrong t₀ t = (t ≤ 256) × ((j : ℕ) → j < t → getD members j false && getD wrong j false ≡ false)
+Inv-loop tasks wrong count low₀ k₀ low k = (k ≤ count) × (count ≤ 64) × (count ≡ min (tasks .count) 64) × (low ≡ first 256 (wrongIn (λ j. getD (tasks .members) j (taskNo 0) .0) wrong k))
 
 abbrev μ-loop : tie.MeasureT-loop
-μ-loop members wrong t₀ t = 256 - t
+μ-loop tasks wrong count low₀ k₀ low k = count - k
+
+smaller-requires : tie.Need-smaller-requires Inv-loop μ-loop
+smaller-requires c κs = search needs
 
 loop-holds : tie.Need-loop-holds Inv-loop μ-loop
-loop-holds c = (search needs, λ j l. absurd (omega arith))
+unfolding any
+loop-holds c = (search needs, omega (arith, c .smaller .ensures), c .smaller .ensures, first-past 256 _ (λ j l. refl))
 
-array-read-if1 : tie.Need-array-read-if1 Inv-loop μ-loop
-array-read-if1 c = search needs
+element-copy-out-task : tie.Need-element-copy-out-task Inv-loop μ-loop
+element-copy-out-task c = search needs
 
-array-read-if1-2 : tie.Need-array-read-if1-2 Inv-loop μ-loop
-array-read-if1-2 c = search needs
+index-requires : tie.Need-index-requires Inv-loop μ-loop
+index-requires c κs = search needs
 
-returns : tie.Need-returns Inv-loop μ-loop
-returns c = sym (first-is 256 _ _ (search needs) (c .if1 .taken) (c .before .before .loop .inv .1))
+array-read-lower : tie.Need-array-read-lower Inv-loop μ-loop
+array-read-lower c = search needs
 
-add-t : tie.Need-add-t Inv-loop μ-loop
-add-t c = search needs
+lower-requires : tie.Need-lower-requires Inv-loop μ-loop
+lower-requires c κs = search needs
+
+add-k : tie.Need-add-k Inv-loop μ-loop
+add-k c = search needs
 
 loop-less : tie.Need-loop-less Inv-loop μ-loop
 loop-less c = search needs
 
 loop-again : tie.Need-loop-again Inv-loop μ-loop
-loop-again c = (search needs, none-more _ _ (c .before .before .loop .inv .1) (c .if1 .left))
+loop-again c = let b = c .before .before .before .before in (search needs, search needs, search needs, lowest-turn _ (b .before .before .args .t2) (b .loop .k) _ _ _ (b .loop .inv .3) (c .before .index .ensures .0) (c .before .index .ensures .1) (c .lower .ensures))
 
-returns-2 : tie.Need-returns-2 Inv-loop μ-loop
-returns-2 c = first-past 256 _ (λ j l. c .before .loop .inv .1 j (omega arith))
+returns : tie.Need-returns Inv-loop μ-loop
+unfolding member
+returns c = let e : c .before .loop .k ≡ min (c .before .before .before .args .t1 .count) 64 = omega arith in simp (c .before .loop .inv .3, e)
 
 pub lowest-wrong-spec : {M : Type 1} → statement M
 lowest-wrong-spec =
@@ -45,11 +54,13 @@ lowest-wrong-spec =
     (tie.spec
     Inv-loop
     μ-loop
+    smaller-requires
     loop-holds
-    array-read-if1
-    array-read-if1-2
-    returns
-    add-t
+    element-copy-out-task
+    index-requires
+    array-read-lower
+    lower-requires
+    add-k
     loop-less
     loop-again
-    returns-2)
+    returns)
