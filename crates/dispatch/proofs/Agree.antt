@@ -20,7 +20,7 @@ use Rattle.plans.specs.Pieces.{taskOf, pieceOf, SamePlan}
 use Rattle.plans.specs.Rank.{above}
 use Rattle.plans.specs.declared.Piece.{Piece}
 use Rattle.plans.specs.declared.Plan.{Plan}
-use Rattle.dispatch.specs.Jobs.{noJob, noRun, jobOf, lastOf, byRunner, isActive, onceReleased, names, SameState}
+use Rattle.dispatch.specs.Jobs.{noJob, noRun, jobOf, lastOf, byRunner, onceReleased, names, SameState}
 use Rattle.dispatch.specs.Refusing.{notRun, tooSoon, stillActive, lowest, judgedSets, judged}
 use Rattle.dispatch.specs.Rules.{eachJob, finishedJob, finish, turnsLate, markedJob, markLate, firstPiece, releasedJob, release, pieceAt, standsOn, beats, highest, chosen, runsNow, ranJob, run, preempted, countPreempted, agedJob, age}
 use Rattle.dispatch.specs.Sets.{member, SameSet}

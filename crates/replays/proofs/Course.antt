@@ -10,7 +10,6 @@ use lib.ListN.{length, getD, take, drop, length-take, length-drop, drop-of-lengt
 use lib.Seq.{drop-drop, ext-getD, getD-take, getD-drop}
 use Rattle.tasks.specs.Below.{padded}
 use Rattle.tasks.proofs.Padded.{padded-same}
-use Rattle.tasks.specs.declared.Answer.{Answer}
 use Rattle.tasks.specs.declared.Answer.the-variants.{Accepted, Refused}
 use Rattle.tasks.specs.declared.Refusal.{Refusal}
 use Rattle.plans.specs.declared.Plan.{Plan}
@@ -21,8 +20,8 @@ use Rattle.texts.specs.Text.{noText, puts, textOf}
 use Rattle.texts.specs.declared.Text.{Text}
 use Rattle.texts.proofs.Putting.{puts-parts}
 use Rattle.dispatch.specs.declared.State.{State}
-use Rattle.replays.specs.Requests.{finishes, releases, requestSize, requestRead}
-use Rattle.replays.specs.Replay.{placeAt, tickAsked, Standing, next, played, oneMore, wholes, atHand, standing, playedOn, lastAnswer}
+use Rattle.replays.specs.Requests.{requestSize, requestRead}
+use Rattle.replays.specs.Replay.{placeAt, tickAsked, Standing, next, played, wholes, atHand, standing, playedOn, lastAnswer}
 use Rattle.replays.specs.Turns.{endOf, beginOf, handed, askedOf, finishesOf, releasesOf, shownOf, shotOf, shotAfter}
 use Rattle.replays.specs.declared.Asked.{Asked}
 use Rattle.replays.specs.declared.Player.{Player}

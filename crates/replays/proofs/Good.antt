@@ -1,18 +1,16 @@
 -- What a whole and good request is: it is read the same whatever bytes come after it.
 use mathlib.Core.Path.{_≡_, refl, sym, ap, _∙_}
-use mathlib.Core.Bool.{Bool, true, false, cond}
+use mathlib.Core.Bool.{Bool, true, false}
 use mathlib.Core.List.{List, _++_}
-use Prim.Native.Nat.{ℕ, zero, suc, _+_, _≤_, _<_}
+use Prim.Native.Nat.{ℕ, _+_, _≤_, _<_}
 use native.Mathlib.Omega.{arith}
-use borrow.Author.Tests.{ltb-false, leb-false, le-ltb, lt-leb}
+use borrow.Author.Tests.{ltb-false, le-ltb, lt-leb}
 use lib.Dec.{leb, ltb}
 use lib.ListN.{length, getD, length-append, List·getD-append}
 use Rattle.tasks.specs.Tables.{taskNo}
-use Rattle.tasks.specs.declared.Answer.{Answer}
-use Rattle.tasks.specs.declared.Answer.the-variants.{Accepted, Refused}
+use Rattle.tasks.specs.declared.Answer.the-variants.{Accepted}
 use Rattle.tasks.specs.declared.Place.{Place}
 use Rattle.tasks.proofs.Padded.{padded-same}
-use Rattle.dispatch.specs.declared.Tasks.{Tasks}
 use Rattle.replays.specs.Requests.{finishes, releases, tasksAt, requestSize, requestRead}
 use Rattle.replays.specs.declared.Asked.{Asked}
 

@@ -5,7 +5,7 @@ use mathlib.Core.List.{List, [], _∷_, _++_}
 use Prim.Native.Nat.{ℕ, zero, suc, _+_, _-_, _*_, _≤_, _<_, min}
 use native.Mathlib.Nat.{zero-add}
 use native.Mathlib.Omega.{arith}
-use borrow.Author.Tests.{le-leb, lt-leb}
+use borrow.Author.Tests.{lt-leb}
 use lib.Dec.{leb}
 use lib.ListN.{length, getD, take, drop, length-append, length-take, length-drop}
 use lib.Seq.{drop-append-le, ext-getD, getD-take}
@@ -13,18 +13,16 @@ use Rattle.tasks.specs.Below.{padded}
 use Rattle.tasks.proofs.Padded.{padded-in, padded-length}
 use Rattle.tasks.specs.declared.Answer.{Answer}
 use Rattle.tasks.specs.declared.Answer.the-variants.{Accepted, Refused}
-use Rattle.tasks.specs.declared.Refusal.{Refusal}
 use Rattle.plans.specs.declared.Plan.{Plan}
 use Rattle.dispatch.specs.declared.State.{State}
-use Rattle.dispatch.specs.declared.Ticked.{Ticked}
-use Rattle.lines.specs.Lines.{tickedText, totalsText}
+use Rattle.lines.specs.Lines.{totalsText}
 use Rattle.texts.specs.Text.{textOf}
 use Rattle.replays.specs.Requests.{requestSize, requestRead}
-use Rattle.replays.specs.Replay.{placeAt, tickAsked, closed, ticksText, Standing, next, played, wholes, atHand, standing, playedOn}
+use Rattle.replays.specs.Replay.{placeAt, closed, ticksText, Standing, next, played, wholes, atHand, standing, playedOn}
 use Rattle.replays.specs.declared.Asked.{Asked}
 use Rattle.replays.specs.declared.Player.{Player}
 use Rattle.replays.proofs.Course.{wholes-none, wholes-more, wholes-zero}
-use Rattle.replays.proofs.Good.{Good, accepted-good, good-read, good-on, good-size, read-on, size-on}
+use Rattle.replays.proofs.Good.{Good, accepted-good, good-read, good-size, read-on, size-on}
 
 append-assoc : (a b c : List ℕ) → (a ++ b) ++ c ≡ a ++ (b ++ c)
 append-assoc [] b c = refl

@@ -6,7 +6,6 @@ use lib.Dec.{leb, ltb}
 use lib.ListN.{length, getD}
 use Rattle.tasks.specs.Below.{padded}
 use Rattle.tasks.specs.Tables.{taskNo}
-use Rattle.tasks.specs.declared.Answer.{Answer}
 use Rattle.tasks.specs.declared.Answer.the-variants.{Accepted, Refused}
 use Rattle.tasks.specs.declared.Place.{Place}
 use Rattle.tasks.specs.declared.Refusal.{Refusal}

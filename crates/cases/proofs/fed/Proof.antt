@@ -1,6 +1,5 @@
 use borrow.Author.Needs.{needs}
 use Prim.Native.Nat.{_-_, _≤_}
-use native.Mathlib.Omega.{arith}
 use Rattle.cases.proofs.fed.Statement.{statement}
 use Rattle.cases.proofs.fed.Tie as tie
 use Rattle.cases.proofs.fed.Reads as reads

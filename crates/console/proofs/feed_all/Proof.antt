@@ -1,5 +1,4 @@
 use borrow.Author.Needs.{needs}
-use native.Mathlib.Omega.{arith}
 use Rattle.console.proofs.feed_all.Statement.{statement}
 use Rattle.console.proofs.feed_all.Tie as tie
 use Rattle.console.proofs.feed_all.Reads as reads

@@ -1,8 +1,7 @@
 use Rattle.replays.proofs.Course.{last-none, last-some}
 use lib.Seq.{length-take-le}
-use Rattle.replays.specs.Replay.{lastAnswer}
 use native.Mathlib.Omega.{arith}
-use mathlib.Core.Path.{_≡_, sym, ap, _∙_}
+use mathlib.Core.Path.{_≡_, sym}
 use lib.ListN.{length, length-map}
 use borrow.Author.Needs.{needs}
 use Rattle.replays.proofs.last.Statement.{statement}

@@ -1,5 +1,5 @@
 use Rattle.replays.specs.Requests.{requestRead}
-use borrow.Author.Tests.{lt-ltb, le-ltb, le-leb, lt-leb, eq-eqb, ne-eqb}
+use borrow.Author.Tests.{lt-ltb, le-ltb, le-leb, lt-leb}
 use borrow.Author.Needs.{needs}
 use Rattle.replays.proofs.read_request.Statement.{statement}
 use Rattle.replays.proofs.read_request.Tie as tie

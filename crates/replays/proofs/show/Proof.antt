@@ -1,7 +1,6 @@
 use Rattle.replays.proofs.Course.{shown-is}
-use Rattle.replays.specs.Turns.{shownOf}
 use native.Mathlib.Omega.{arith}
-use mathlib.Core.Path.{_≡_, sym, ap, _∙_}
+use mathlib.Core.Path.{_≡_}
 use lib.ListN.{length, length-map}
 use borrow.Author.Needs.{needs}
 use Rattle.replays.proofs.show.Statement.{statement}

@@ -1,10 +1,10 @@
 use Rattle.replays.proofs.Course.{count-stops, count-goes, count-within}
 use borrow.Author.Needs.{needs}
 use Prim.Native.Nat.{_≤_, _-_}
-use mathlib.Core.Path.{_≡_, refl, sym, ap, _∙_}
+use mathlib.Core.Path.{_≡_}
 use native.Mathlib.Omega.{arith}
 use lib.ListN.{length, take}
-use Rattle.replays.proofs.Course.{Counted, counted-start, counted-end, counted-stop, counted-turn}
+use Rattle.replays.proofs.Course.{Counted, counted-end}
 use Rattle.replays.proofs.whole_requests.Statement.{statement}
 use Rattle.replays.proofs.whole_requests.Tie as tie
 use Rattle.replays.proofs.whole_requests.Reads as reads
