@@ -16,66 +16,51 @@ Inv-loop plan count plan' state₀ sum₀ counter₀ state sum counter = counter
 abbrev μ-loop : tie.MeasureT-loop
 μ-loop plan count plan' state₀ sum₀ counter₀ state sum counter = count - counter
 
--- src/lib.rt:72:9
 read-plan-requires : tie.Need-read-plan-requires Inv-loop μ-loop
 read-plan-requires c κs = search needs
 
--- src/lib.rt:74:9
 fresh-requires : tie.Need-fresh-requires Inv-loop μ-loop
 fresh-requires c κs = search needs
 
--- src/lib.rt:76:5
 loop-holds : tie.Need-loop-holds Inv-loop μ-loop
 loop-holds c = search needs
 
--- src/lib.rt:77:13
 full-tick-requires : tie.Need-full-tick-requires Inv-loop μ-loop
 full-tick-requires c κs = search needs
 
 enum-told : tie.Need-enum-told Inv-loop μ-loop
 enum-told c = search needs
 
--- src/lib.rt:82:17
 enum-told-2 : tie.Need-enum-told-2 Inv-loop μ-loop
 enum-told-2 c = search needs
 
--- src/lib.rt:82:17
 returns : tie.Need-returns Inv-loop μ-loop
 returns c = search needs
 
--- src/lib.rt:86:9
 of-runs-requires : tie.Need-of-runs-requires Inv-loop μ-loop
 of-runs-requires c κs = search needs
 
--- src/lib.rt:76:9
 add-counter : tie.Need-add-counter Inv-loop μ-loop
 add-counter c = search needs
 
--- src/lib.rt:76:5
 loop-less : tie.Need-loop-less Inv-loop μ-loop
 loop-less c = search needs
 
--- src/lib.rt:76:5
 loop-again : tie.Need-loop-again Inv-loop μ-loop
 loop-again c = search needs
 
--- src/lib.rt:89:18
 cast-mix : tie.Need-cast-mix Inv-loop μ-loop
 cast-mix c = search needs
 
--- src/lib.rt:89:9
 mix-requires : tie.Need-mix-requires Inv-loop μ-loop
 mix-requires c κs = search needs
 
--- src/lib.rt:89:38
 cast-mix-2 : tie.Need-cast-mix-2 Inv-loop μ-loop
 cast-mix-2 c = search needs
 
--- src/lib.rt:89:5
 mix-requires-2 : tie.Need-mix-requires-2 Inv-loop μ-loop
 mix-requires-2 c κs = search needs
 
--- src/lib.rt:70:1
 returns-2 : tie.Need-returns-2 Inv-loop μ-loop
 returns-2 c = search needs
 

@@ -13,39 +13,30 @@ Inv-loop sum cores runs all₀ x₀ all x = x ≤ 16
 abbrev μ-loop : tie.MeasureT-loop
 μ-loop sum cores runs all₀ x₀ all x = 16 - x
 
--- src/lib.rt:48:5
 loop-holds : tie.Need-loop-holds Inv-loop μ-loop
 loop-holds c = search needs
 
--- src/lib.rt:50:35
 mul-of-run : tie.Need-mul-of-run Inv-loop μ-loop
 mul-of-run c = search needs
 
--- src/lib.rt:50:35
 array-copy-out-of-run : tie.Need-array-copy-out-of-run Inv-loop μ-loop
 array-copy-out-of-run c = search needs
 
--- src/lib.rt:50:28
 of-run-requires : tie.Need-of-run-requires Inv-loop μ-loop
 of-run-requires c κs = search needs
 
--- src/lib.rt:50:13
 mix-requires : tie.Need-mix-requires Inv-loop μ-loop
 mix-requires c κs = search needs
 
--- src/lib.rt:48:9
 add-x : tie.Need-add-x Inv-loop μ-loop
 add-x c = search needs
 
--- src/lib.rt:48:5
 loop-less : tie.Need-loop-less Inv-loop μ-loop
 loop-less c = search needs
 
--- src/lib.rt:48:5
 loop-again : tie.Need-loop-again Inv-loop μ-loop
 loop-again c = search needs
 
--- src/lib.rt:46:1
 returns : tie.Need-returns Inv-loop μ-loop
 returns c = search needs
 

@@ -14,39 +14,30 @@ Inv-loop count reader₀ i₀ t4 reader i = (i ≤ count)
 abbrev μ-loop : tie.MeasureT-loop
 μ-loop count reader₀ i₀ t4 reader i = count - i
 
--- src/main.rt:76:9
 start-table-requires : tie.Need-start-table-requires Inv-loop μ-loop
 start-table-requires c κs = search needs
 
--- src/main.rt:78:5
 loop-holds : tie.Need-loop-holds Inv-loop μ-loop
 loop-holds c = search needs
 
--- src/main.rt:79:38
 slice-aggregate-feed : tie.Need-slice-aggregate-feed Inv-loop μ-loop
 slice-aggregate-feed c = search needs
 
--- src/main.rt:79:9
 feed-requires : tie.Need-feed-requires Inv-loop μ-loop
 feed-requires c κs = search needs
 
--- src/main.rt:80:9
 add-i : tie.Need-add-i Inv-loop μ-loop
 add-i c = search needs
 
--- src/main.rt:78:5
 loop-less : tie.Need-loop-less Inv-loop μ-loop
 loop-less c = search needs
 
--- src/main.rt:78:5
 loop-again : tie.Need-loop-again Inv-loop μ-loop
 loop-again c = search needs
 
--- src/main.rt:82:5
 close-table-requires : tie.Need-close-table-requires Inv-loop μ-loop
 close-table-requires c κs = search needs
 
--- src/main.rt:75:1
 returns : tie.Need-returns Inv-loop μ-loop
 returns c = search needs
 

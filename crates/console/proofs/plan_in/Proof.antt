@@ -7,23 +7,18 @@ use Rattle.console.proofs.plan_in.Reads as reads
 use Rattle.console.proofs.plan_in.Lts as lts
 use Rattle.reading.proofs.read_plan.Reads as read-plan-reads
 
--- src/main.rt:116:9
 read-plan-requires : tie.Need-read-plan-requires
 read-plan-requires c κs = search needs
 
--- src/main.rt:116:9
 returns : tie.Need-returns
 returns c = search needs
 
--- src/main.rt:118:22
 slice-aggregate-read-plan : tie.Need-slice-aggregate-read-plan
 slice-aggregate-read-plan c = sym (length-take-le _ _ (search needs))
 
--- src/main.rt:118:5
 read-plan-requires-2 : tie.Need-read-plan-requires-2
 read-plan-requires-2 c κs = search needs
 
--- src/main.rt:114:1
 returns-2 : tie.Need-returns-2
 returns-2 c = search needs
 

@@ -9,23 +9,18 @@ use Rattle.console.proofs.print.Reads as reads
 use Rattle.console.proofs.print.Lts as lts
 use Rattle.io.proofs.write_all.Reads as write-all-reads
 
--- src/lib.rt:55:38
 array-share-prefix-bytes : tie.Need-array-share-prefix-bytes
 array-share-prefix-bytes c = let l : length (c .before .before .args .text .bytes) ≡ 9216 = simp length-map at (c .before .before .good .0 .1 .1 .0 .1 .0 .1) in omega arith
 
--- src/lib.rt:55:38
 slice-aggregate-write-all : tie.Need-slice-aggregate-write-all
 slice-aggregate-write-all c = let l : length (c .before .before .before .args .text .bytes) ≡ 9216 = simp length-map at (c .before .before .before .good .0 .1 .1 .0 .1 .0 .1) in sym (length-take-le _ _ (omega arith))
 
--- src/lib.rt:55:9
 write-all-requires : tie.Need-write-all-requires
 write-all-requires c κs = search needs
 
--- src/lib.rt:51:1
 returns : tie.Need-returns
 returns c = search needs
 
--- src/lib.rt:51:1
 returns-2 : tie.Need-returns-2
 returns-2 c = search needs
 

@@ -13,39 +13,31 @@ use Rattle.layout.proofs.allowance.Reads as reads
 use Rattle.layout.proofs.allowance.Lts as lts
 use Rattle.bounds.proofs.bound_of.Reads as bound-of-reads
 
--- src/lib.rt:83:9
 bound-of-requires : tie.Need-bound-of-requires
 bound-of-requires c κs = search needs
 
--- src/lib.rt:85:9
 returns : tie.Need-returns
 returns c = let b = c .before .before .bound-of in
     (sym (no-margin _ _ _ (omega (arith, b .ensures .0, b .ensures .1))), search needs)
 
--- src/lib.rt:87:6
 sub-result : tie.Need-sub-result
 sub-result c = search needs
 
--- src/lib.rt:87:46
 sub-result-2 : tie.Need-sub-result-2
 sub-result-2 c = search needs
 
--- src/lib.rt:87:32
 add-result : tie.Need-add-result
 add-result c = let s = c .before .before .before .before .before in
     omega (arith, local-small (s .args .plan) (s .pre .3) (s .args .q) (s .pre .2), c .before .before .before .before .bound-of .ensures .0)
 
--- src/lib.rt:87:31
 div-result : tie.Need-div-result
 div-result c = search needs
 
--- src/lib.rt:87:5
 div-result-2 : tie.Need-div-result-2
 unfolding periods
 div-result-2 c = let s = c .before .before .before .before .before in
     omega (arith, some-period (s .args .p) (c .before .before .before .before .bound-of .result .deadline) (s .pre .0) (omega arith))
 
--- src/lib.rt:79:1
 returns-2 : tie.Need-returns-2
 unfolding allowance periods
 returns-2 c = let s = c .before .before .before .before .before in

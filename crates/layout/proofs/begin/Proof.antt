@@ -15,44 +15,34 @@ Inv-loop table n plan₀ i₀ plan i = (i ≤ n) × (n ≤ 64) × (plan ≡ begu
 abbrev μ-loop : tie.MeasureT-loop
 μ-loop table n plan₀ i₀ plan i = n - i
 
--- src/lib.rt:256:20
 no-plan-requires : tie.Need-no-plan-requires Inv-loop μ-loop
 no-plan-requires c κs = search needs
 
--- src/lib.rt:260:5
 loop-holds : tie.Need-loop-holds Inv-loop μ-loop
 loop-holds c = (search needs, search needs, rw (c .no-plan .ensures) (begun-none (c .before .args .t1)))
 
--- src/lib.rt:261:25
 mul-plan : tie.Need-mul-plan Inv-loop μ-loop
 mul-plan c = search needs
 
--- src/lib.rt:261:25
 element-copy-out-plan : tie.Need-element-copy-out-plan Inv-loop μ-loop
 element-copy-out-plan c = search needs
 
--- src/lib.rt:261:9
 mul-t13 : tie.Need-mul-t13 Inv-loop μ-loop
 mul-t13 c = search needs
 
--- src/lib.rt:261:9
 element-set-from-plan : tie.Need-element-set-from-plan Inv-loop μ-loop
 element-set-from-plan c = search needs
 
--- src/lib.rt:262:9
 add-i : tie.Need-add-i Inv-loop μ-loop
 add-i c = search needs
 
--- src/lib.rt:260:5
 loop-less : tie.Need-loop-less Inv-loop μ-loop
 loop-less c = search needs
 
--- src/lib.rt:260:5
 loop-again : tie.Need-loop-again Inv-loop μ-loop
 loop-again c = let at = c .before .before in
     (search needs, at .loop .inv .1, begun-turn _ _ _ (omega arith) (at .loop .inv .2))
 
--- src/lib.rt:251:1
 returns : tie.Need-returns Inv-loop μ-loop
 returns c = let e : c .before .loop .i ≡ c .before .before .before .args .t1 .count = omega arith in
     (rw e at (c .before .loop .inv .2)) ∙ begun-all _

@@ -29,28 +29,22 @@ started : (c : tie.After-begin Inv-loop μ-loop) (k : ℕ) → layFirst (start (
 unfolding start
 started c k = ap (λ (d : Draft). layFirst d k) (rw (c .begin .ensures))
 
--- src/lib.rt:282:9
 begin-requires : tie.Need-begin-requires Inv-loop μ-loop
 begin-requires c κs = accepted-good _ _ _ (c .pre) .tasks .1
 
--- src/lib.rt:285:5
 loop-holds : tie.Need-loop-holds Inv-loop μ-loop
 unfolding layFirst
 loop-holds c = (search needs, refl)
 
--- src/lib.rt:286:13
 place-requires : tie.Need-place-requires Inv-loop μ-loop
 place-requires c κs = offered (c .before .before .before .args .table) (c .before .before .before .pre) _ _ (started (c .before .before) _ ∙ c .before .loop .inv .1) (c .loop-test .taken)
 
--- src/lib.rt:288:54
 cast-t8 : tie.Need-cast-t8 Inv-loop μ-loop
 cast-t8 c = omega (arith, accepted-good _ _ _ (c .before .before .before .before .before .before .pre) .tasks .1)
 
--- src/lib.rt:288:13
 refused-requires : tie.Need-refused-requires Inv-loop μ-loop
 refused-requires c κs = search needs
 
--- src/lib.rt:288:13
 returns : tie.Need-returns Inv-loop μ-loop
 returns c = let at = c .before .before .before .before .before in
     let t = at .before .before .args .table in
@@ -59,22 +53,18 @@ returns c = let at = c .before .before .before .before .before in
     let k : r .placed ≡ false = not-true _ (c .before .if1 .taken) in
     c .refused .ensures ∙ ap outcome (sym (started (at .before) _ ∙ rw e at (lay-stuck _ _ _ (at .loop .inv .1) (sym (c .before .before .before .place .ensures) ∙ rw k) (t .count - (at .loop .i + 1)))))
 
--- src/lib.rt:292:9
 add-i : tie.Need-add-i Inv-loop μ-loop
 add-i c = search needs
 
--- src/lib.rt:285:5
 loop-less : tie.Need-loop-less Inv-loop μ-loop
 loop-less c = search needs
 
--- src/lib.rt:285:5
 loop-again : tie.Need-loop-again Inv-loop μ-loop
 loop-again c = let at = c .before .before .before .before .before .before in
     let r = c .before .before .before .before .place .result in
     let k : r .placed ≡ true = not-false _ (c .before .before .if1 .left) in
     (search needs, lay-more _ _ _ (at .loop .inv .1) (draft (r .plan) (r .closed)) (sym (c .before .before .before .before .place .ensures) ∙ rw k))
 
--- src/lib.rt:277:1
 returns-2 : tie.Need-returns-2 Inv-loop μ-loop
 returns-2 c = let e : c .before .loop .i ≡ c .before .before .before .args .table .count = omega arith in
     ap outcome (sym (started (c .before .before) _ ∙ rw e at (c .before .loop .inv .1)))

@@ -10,39 +10,30 @@ use Rattle.layout.proofs.lowest_whole.Reads as lowest-whole-reads
 use Rattle.layout.proofs.with_piece.Reads as with-piece-reads
 use Rattle.layout.proofs.share_out.Reads as share-out-reads
 
--- src/lib.rt:210:9
 lowest-whole-requires : tie.Need-lowest-whole-requires
 lowest-whole-requires c κs = search needs
 
--- src/lib.rt:213:26
 cast-t11 : tie.Need-cast-t11
 cast-t11 c = search needs
 
--- src/lib.rt:214:26
 cast-t13 : tie.Need-cast-t13
 cast-t13 c = search needs
 
--- src/lib.rt:216:19
 mul-t16 : tie.Need-mul-t16
 mul-t16 c = search needs
 
--- src/lib.rt:216:19
 element-copy-out-t19 : tie.Need-element-copy-out-t19
 element-copy-out-t19 c = search needs
 
--- src/lib.rt:220:19
 with-piece-requires : tie.Need-with-piece-requires
 with-piece-requires c κs = search needs
 
--- src/lib.rt:224:9
 share-out-requires : tie.Need-share-out-requires
 share-out-requires c κs = search needs
 
--- src/lib.rt:206:1
 returns : tie.Need-returns
 returns c = rw (c .with-piece .ensures) (sym (placed-whole _ _ _ (c .before .before .lowest-whole .ensures) (c .before .if1 .taken)))
 
--- src/lib.rt:206:1
 returns-2 : tie.Need-returns-2
 returns-2 c = c .share-out .ensures ∙ sym (placed-shared _ _ (omega (arith, c .before .before .lowest-whole .ensures)))
 

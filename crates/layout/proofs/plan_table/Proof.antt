@@ -9,31 +9,24 @@ use Rattle.layout.proofs.lay_out.Reads as lay-out-reads
 use Rattle.layout.proofs.refused.Reads as refused-reads
 use Rattle.tasks.proofs.check_table.Reads as check-table-reads
 
--- src/lib.rt:304:9
 check-table-requires : tie.Need-check-table-requires
 check-table-requires c κs = search needs
 
--- src/lib.rt:306:25
 enum-known-answer : tie.Need-enum-known-answer
 enum-known-answer c = search needs
 
--- src/lib.rt:306:31
 refused-requires : tie.Need-refused-requires
 refused-requires c κs = search needs
 
--- src/lib.rt:307:29
 enum-told : tie.Need-enum-told
 enum-told c = search needs
 
--- src/lib.rt:307:29
 lay-out-requires : tie.Need-lay-out-requires
 lay-out-requires c κs = sym (c .before .before .check-table .ensures) ∙ c .enum-told .given .1
 
--- src/lib.rt:301:1
 returns : tie.Need-returns
 returns c = c .refused .ensures ∙ sym (table-refused _ _ (sym (c .before .before .before .before .check-table .ensures) ∙ c .before .before .answer .given .1))
 
--- src/lib.rt:301:1
 returns-2 : tie.Need-returns-2
 returns-2 c = c .lay-out .ensures ∙ sym (table-laid _ (sym (c .before .before .before .check-table .ensures) ∙ c .before .enum-told .given .1))
 

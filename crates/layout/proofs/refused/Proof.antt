@@ -5,11 +5,9 @@ use Rattle.layout.proofs.refused.Reads as reads
 use Rattle.layout.proofs.refused.Lts as lts
 use Rattle.layout.proofs.no_plan.Reads as no-plan-reads
 
--- src/lib.rt:272:15
 no-plan-requires : tie.Need-no-plan-requires
 no-plan-requires c κs = search needs
 
--- src/lib.rt:267:1
 returns : tie.Need-returns
 returns c = rw (c .no-plan .ensures)
 

@@ -37,153 +37,120 @@ all-seen at h =
     let e : at .loop .q ≡ at .before .before .before .cores .w .placed = omega arith in
     rw e at (at .loop .inv .4)
 
--- src/lib.rt:160:13
 mul-p : tie.Need-mul-p Inv-loop μ-loop Inv-cores μ-cores
 mul-p c = search needs
 
--- src/lib.rt:160:9
 element-copy-out-p : tie.Need-element-copy-out-p Inv-loop μ-loop Inv-cores μ-cores
 element-copy-out-p c = omega (arith, c .pre .1 .known)
 
--- src/lib.rt:161:20
 mul-need : tie.Need-mul-need Inv-loop μ-loop Inv-cores μ-cores
 mul-need c = search needs
 
--- src/lib.rt:161:9
 element-copy-out-need : tie.Need-element-copy-out-need Inv-loop μ-loop Inv-cores μ-cores
 element-copy-out-need c = omega (arith, c .pre .1 .known)
 
--- src/lib.rt:165:5
 cores-holds : tie.Need-cores-holds Inv-loop μ-loop Inv-cores μ-cores
 cores-holds c = let l : length (c .args .t1 .pieces) ≡ 128 = simp length-map at (c .good .0 .1 .1 .1 .1 .1 .1 .0 .1 .0 .1) in
     (refl, begun (c .args .t1) (c .args .closed) (c .args .i) (c .pre .0) (c .pre .1) l (c .good .1 .0 .1 .0 .1))
 
--- src/lib.rt:166:12
 array-read-if1 : tie.Need-array-read-if1 Inv-loop μ-loop Inv-cores μ-cores
 array-read-if1 c = omega (arith, c .before .cores .inv .1 .board)
 
--- src/lib.rt:167:13
 add-x : tie.Need-add-x Inv-loop μ-loop Inv-cores μ-cores
 add-x c = omega (arith, c .before .before .cores .inv .1 .board)
 
--- src/lib.rt:165:5
 cores-less : tie.Need-cores-less Inv-loop μ-loop Inv-cores μ-cores
 cores-less c = search needs
 
--- src/lib.rt:165:5
 cores-again : tie.Need-cores-again Inv-loop μ-loop Inv-cores μ-cores
 cores-again c = (c .before .before .cores .inv .0, skip (c .before .before .cores .inv .1) (c .before .cores-test .taken) (inl (c .if1 .taken)))
 
--- src/lib.rt:171:9
 loop-holds : tie.Need-loop-holds Inv-loop μ-loop Inv-cores μ-cores
 loop-holds c = (refl, search needs, refl, search needs, sym (limit-start _ _ _))
 
--- src/lib.rt:172:21
 mul-z : tie.Need-mul-z Inv-loop μ-loop Inv-cores μ-cores
 mul-z c = search needs
 
--- src/lib.rt:172:21
 element-copy-out-z : tie.Need-element-copy-out-z Inv-loop μ-loop Inv-cores μ-cores
 element-copy-out-z c = let at = c .before in
     omega (arith, at .before .before .before .cores .inv .1 .ready .moderate .few, at .loop .inv .2)
 
--- src/lib.rt:173:16
 index-requires : tie.Need-index-requires Inv-loop μ-loop Inv-cores μ-cores
 index-requires c κs = search needs
 
--- src/lib.rt:174:17
 add-q : tie.Need-add-q Inv-loop μ-loop Inv-cores μ-cores
 add-q c = search needs
 
--- src/lib.rt:171:9
 loop-less : tie.Need-loop-less Inv-loop μ-loop Inv-cores μ-cores
 loop-less c = search needs
 
--- src/lib.rt:171:9
 loop-again : tie.Need-loop-again Inv-loop μ-loop Inv-cores μ-cores
 loop-again c = let at = c .before .before .before .before in
     (at .loop .inv .0, search needs, at .loop .inv .2, at .loop .inv .3, at .loop .inv .4 ∙ sym (limit-other _ _ _ _ (λ e. c .if2 .taken (c .before .index .ensures .0 ∙ e ∙ sym (at .loop .inv .0)))))
 
--- src/lib.rt:176:17
 allowance-requires : tie.Need-allowance-requires Inv-loop μ-loop Inv-cores μ-cores
 allowance-requires c κs = let at = c .before .before .before .before in
     let s = at .before .before .before .cores .inv .1 in
     (omega (arith, s .period, s .ready .fits, s .ready .some), omega (arith, s .period, s .ready .most), omega (arith, at .loop .inv .2), s .ready .moderate)
 
--- src/lib.rt:178:17
 add-x-2 : tie.Need-add-x-2 Inv-loop μ-loop Inv-cores μ-cores
 add-x-2 c = let at = c .before .before .before .before .before .before in
     omega (arith, at .before .before .before .cores .inv .1 .board, at .loop .inv .0, at .before .before .cores-test .taken)
 
--- src/lib.rt:165:5
 cores-less-2 : tie.Need-cores-less-2 Inv-loop μ-loop Inv-cores μ-cores
 cores-less-2 c = let at = c .before .before .before .before .before .before in
     omega (arith, at .loop .inv .0, at .before .before .cores-test .taken)
 
--- src/lib.rt:165:5
 cores-again-2 : tie.Need-cores-again-2 Inv-loop μ-loop Inv-cores μ-cores
 cores-again-2 c = let at = c .before .before .before .before .before .before in
     let o = at .before .before .before in
     let here = sym (c .before .before .before .index .ensures .0) ∙ c .before .before .if2 .left ∙ at .loop .inv .0 in
     (o .cores .inv .0, rw (at .loop .inv .0) (skip (o .cores .inv .1) (at .before .before .cores-test .taken) (inr (limit-nothing _ _ _ (at .loop .q) _ (omega (arith, at .loop .inv .2)) here (sym (c .before .allowance .ensures .0) ∙ c .if3 .taken)))))
 
--- src/lib.rt:180:13
 lower-requires : tie.Need-lower-requires Inv-loop μ-loop Inv-cores μ-cores
 lower-requires c κs = search needs
 
--- src/lib.rt:171:13
 add-q-2 : tie.Need-add-q-2 Inv-loop μ-loop Inv-cores μ-cores
 add-q-2 c = search needs
 
--- src/lib.rt:171:9
 loop-less-2 : tie.Need-loop-less-2 Inv-loop μ-loop Inv-cores μ-cores
 loop-less-2 c = search needs
 
--- src/lib.rt:171:9
 loop-again-2 : tie.Need-loop-again-2 Inv-loop μ-loop Inv-cores μ-cores
 loop-again-2 c = let at = c .before .before .before .before .before .before .before in
     let here = sym (c .before .before .before .before .index .ensures .0) ∙ c .before .before .before .if2 .left ∙ at .loop .inv .0 in
     (at .loop .inv .0, search needs, at .loop .inv .2, omega (arith, c .lower .ensures, at .loop .inv .3), c .lower .ensures ∙ rw (at .loop .inv .4, c .before .before .allowance .ensures .0) (sym (limit-here _ _ _ _ here)))
 
--- src/lib.rt:183:17
 give-requires : tie.Need-give-requires Inv-loop μ-loop Inv-cores μ-cores
 give-requires c κs = let o = c .before .before .before .before .before in
     (omega (arith, o .cores .inv .1 .few, o .cores .inv .1 .board), o .cores .inv .1 .ready .known, omega (arith, o .cores .inv .1 .board))
 
--- src/lib.rt:187:13
 give-requires-2 : tie.Need-give-requires-2 Inv-loop μ-loop Inv-cores μ-cores
 give-requires-2 c κs = let o = c .before .before .before .before .before in
     (omega (arith, o .cores .inv .1 .few, o .cores .inv .1 .board), o .cores .inv .1 .ready .known, omega (arith, o .cores .inv .1 .board))
 
--- src/lib.rt:188:9
 array-write-shut : tie.Need-array-write-shut Inv-loop μ-loop Inv-cores μ-cores
 array-write-shut c = search needs
 
--- src/lib.rt:165:17
 add-x-3 : tie.Need-add-x-3 Inv-loop μ-loop Inv-cores μ-cores
 add-x-3 c = search needs
 
--- src/lib.rt:165:5
 cores-less-3 : tie.Need-cores-less-3 Inv-loop μ-loop Inv-cores μ-cores
 cores-less-3 c = search needs
 
--- src/lib.rt:165:5
 cores-again-3 : tie.Need-cores-again-3 Inv-loop μ-loop Inv-cores μ-cores
 cores-again-3 c = let at = c .before .before .before .before in
     let o = at .before .before .before in
     (o .cores .inv .0, rw (c .before .give2 .ensures, at .loop .inv .0) (part (o .cores .inv .1) (at .before .before .cores-test .taken) (at .before .if1 .left) (all-seen at (c .before .before .before .loop-test .left)) (at .loop .inv .3) (omega arith)))
 
--- src/lib.rt:155:1
 returns : tie.Need-returns Inv-loop μ-loop Inv-cores μ-cores
 returns c = rw (c .before .cores .inv .0) (sym (run-out (c .before .cores .inv .1) (c .cores-test .left)))
 
--- src/lib.rt:155:1
 returns-2 : tie.Need-returns-2 Inv-loop μ-loop Inv-cores μ-cores
 returns-2 c = let at = c .before .before .before in
     let o = at .before .before .before in
     rw (c .give .ensures, at .loop .inv .0) (sym (fit (o .cores .inv .1) (at .before .before .cores-test .taken) (at .before .if1 .left) (all-seen at (c .before .before .loop-test .left)) (at .loop .inv .3) (c .before .if4 .taken)))
 
--- src/lib.rt:155:1
 returns-3 : tie.Need-returns-3 Inv-loop μ-loop Inv-cores μ-cores
 returns-3 c = let at = c .before .before .before .before in
     let o = at .before .before .before in

@@ -6,19 +6,15 @@ use Rattle.layout.proofs.with_piece.Tie as tie
 use Rattle.layout.proofs.with_piece.Reads as reads
 use Rattle.layout.proofs.with_piece.Lts as lts
 
--- src/lib.rt:40:5
 mul-z : tie.Need-mul-z
 mul-z c = search needs
 
--- src/lib.rt:40:5
 element-set-from-z : tie.Need-element-set-from-z
 element-set-from-z c = search needs
 
--- src/lib.rt:41:19
 add-next : tie.Need-add-next
 add-next c = search needs
 
--- src/lib.rt:34:1
 returns : tie.Need-returns
 unfolding put
 returns c = refl

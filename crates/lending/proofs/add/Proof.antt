@@ -15,40 +15,31 @@ pressed : (c : tie.After-pressure) → let a = c .before .before .before .before
 unfolding pressureOn above
 pressed c = rw (c .before .before .index2 .ensures .0, c .before .before .before .index .ensures .0) at (c .pressure .ensures)
 
--- src/lib.rt:171:9
 index-requires : tie.Need-index-requires
 index-requires c κs = search needs
 
--- src/lib.rt:172:9
 index-requires-2 : tie.Need-index-requires-2
 index-requires-2 c κs = search needs
 
--- src/lib.rt:173:20
 mul-deadline : tie.Need-mul-deadline
 mul-deadline c = search needs
 
--- src/lib.rt:173:9
 element-copy-out-deadline : tie.Need-element-copy-out-deadline
 element-copy-out-deadline c = search needs
 
--- src/lib.rt:174:44
 mul-pressure : tie.Need-mul-pressure
 mul-pressure c = search needs
 
--- src/lib.rt:174:44
 element-copy-out-pressure : tie.Need-element-copy-out-pressure
 element-copy-out-pressure c = search needs
 
--- src/lib.rt:174:21
 pressure-requires : tie.Need-pressure-requires
 pressure-requires c κs = let pre = c .before .before .before .before .pre in
     rw (c .before .index2 .ensures .0) (pre .positive, pre .fits, pre .most, pre .near)
 
--- src/lib.rt:174:5
 add-adding : tie.Need-add-adding
 add-adding c = omega (arith, pressed c, c .before .before .before .before .before .pre .room)
 
--- src/lib.rt:166:1
 returns : tie.Need-returns
 unfolding added
 returns c = rw (pressed c)

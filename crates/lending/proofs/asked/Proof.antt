@@ -7,27 +7,21 @@ use Rattle.lending.proofs.asked.Reads as reads
 use Rattle.lending.proofs.asked.Lts as lts
 use Rattle.shapes.proofs.check_plan.Reads as check-plan-reads
 
--- src/lib.rt:111:9
 check-plan-requires : tie.Need-check-plan-requires
 check-plan-requires c κs = search needs
 
--- src/lib.rt:113:31
 enum-told : tie.Need-enum-told
 enum-told c = search needs
 
--- src/lib.rt:115:16
 enum-told-2 : tie.Need-enum-told-2
 enum-told-2 c = search needs
 
--- src/lib.rt:108:1
 returns : tie.Need-returns
 returns c = c .enum-told .given .1 ∙ sym (asked-refused _ _ _ (sym (c .before .before .check-plan .ensures) ∙ c .enum-told .given .1))
 
--- src/lib.rt:108:1
 returns-2 : tie.Need-returns-2
 returns-2 c = c .before .before .enum-told2 .given .1 ∙ sym (asked-inside _ _ (sym (c .before .before .before .before .check-plan .ensures) ∙ c .before .before .enum-told2 .given .1) (c .if1 .taken))
 
--- src/lib.rt:108:1
 returns-3 : tie.Need-returns-3
 returns-3 c = sym (asked-past _ _ (sym (c .before .before .before .before .check-plan .ensures) ∙ c .before .before .enum-told2 .given .1) (c .if1 .left))
 

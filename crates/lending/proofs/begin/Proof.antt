@@ -12,55 +12,42 @@ use Rattle.lending.proofs.no_piece.Reads as no-piece-reads
 use Rattle.bounds.proofs.earlier.Reads as earlier-reads
 use Rattle.tasks.proofs.TaskNo.index.Reads as index-reads
 
--- src/lib.rt:128:9
 asked-requires : tie.Need-asked-requires
 asked-requires c κs = search needs
 
--- src/lib.rt:132:17
 enum-told : tie.Need-enum-told
 enum-told c = search needs
 
--- src/lib.rt:132:17
 no-piece-requires : tie.Need-no-piece-requires
 no-piece-requires c κs = search needs
 
--- src/lib.rt:143:25
 enum-told-2 : tie.Need-enum-told-2
 enum-told-2 c = search needs
 
--- src/lib.rt:143:25
 mul-piece : tie.Need-mul-piece
 mul-piece c = omega (arith, asked-place _ _ (sym (c .before .before .before .asked .ensures) ∙ c .enum-told2 .given .1), asked-moderate _ _ (sym (c .before .before .before .asked .ensures) ∙ c .enum-told2 .given .1) .few)
 
--- src/lib.rt:143:25
 element-copy-out-piece : tie.Need-element-copy-out-piece
 element-copy-out-piece c = omega (arith, asked-place _ _ (sym (c .before .before .before .asked .ensures) ∙ c .enum-told2 .given .1), asked-moderate _ _ (sym (c .before .before .before .asked .ensures) ∙ c .enum-told2 .given .1) .few)
 
--- src/lib.rt:144:17
 index-requires : tie.Need-index-requires
 index-requires c κs = search needs
 
--- src/lib.rt:145:28
 mul-deadline : tie.Need-mul-deadline
 mul-deadline c = search needs
 
--- src/lib.rt:145:28
 element-copy-out-deadline : tie.Need-element-copy-out-deadline
 element-copy-out-deadline c = omega (arith, c .index .ensures .0, asked-moderate _ _ (sym (c .before .before .before .before .before .asked .ensures) ∙ c .before .before .enum-told2 .given .1) .owned _ (asked-place _ _ (sym (c .before .before .before .before .before .asked .ensures) ∙ c .before .before .enum-told2 .given .1)))
 
--- src/lib.rt:145:48
 earlier-requires : tie.Need-earlier-requires
 earlier-requires c κs = (asked-place _ _ (sym (c .before .before .before .before .before .asked .ensures) ∙ c .before .before .enum-told2 .given .1), asked-moderate _ _ (sym (c .before .before .before .before .before .asked .ensures) ∙ c .before .before .enum-told2 .given .1))
 
--- src/lib.rt:145:28
 sub-deadline : tie.Need-sub-deadline
 sub-deadline c = rw (c .before .index .ensures .0, c .earlier .ensures) (spent-within _ _ (sym (c .before .before .before .before .before .before .asked .ensures) ∙ c .before .before .before .enum-told2 .given .1))
 
--- src/lib.rt:125:1
 returns : tie.Need-returns
 returns c = rw (c .before .enum-told .given .1, c .no-piece .ensures) (sym (begun-by _ _ _ (sym (c .before .before .before .before .asked .ensures) ∙ c .before .enum-told .given .1)))
 
--- src/lib.rt:125:1
 returns-2 : tie.Need-returns-2
 unfolding localDeadline
 returns-2 c = rw (c .before .before .before .enum-told2 .given .1, c .before .index .ensures .0, c .earlier .ensures) (sym (begun-by _ _ _ (sym (c .before .before .before .before .before .before .asked .ensures) ∙ c .before .before .before .enum-told2 .given .1)))

@@ -5,23 +5,18 @@ use Rattle.lending.proofs.bounding.Reads as reads
 use Rattle.lending.proofs.bounding.Lts as lts
 use Rattle.plans.proofs.margin_of.Reads as margin-of-reads
 
--- src/lib.rt:184:25
 enum-known-answer : tie.Need-enum-known-answer
 enum-known-answer c = search needs
 
--- src/lib.rt:187:21
 enum-told : tie.Need-enum-told
 enum-told c = search needs
 
--- src/lib.rt:187:21
 margin-of-requires : tie.Need-margin-of-requires
 margin-of-requires c κs = search needs
 
--- src/lib.rt:179:1
 returns : tie.Need-returns
 returns c = simp (c .before .answer .given .1)
 
--- src/lib.rt:179:1
 returns-2 : tie.Need-returns-2
 returns-2 c = simp (c .before .enum-told .given .1, c .margin-of .ensures)
 

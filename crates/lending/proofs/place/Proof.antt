@@ -6,24 +6,19 @@ use Rattle.lending.proofs.place.Tie as tie
 use Rattle.lending.proofs.place.Reads as reads
 use Rattle.lending.proofs.place.Lts as lts
 
--- src/lib.rt:99:9
 mul-piece : tie.Need-mul-piece
 mul-piece c = search needs
 
--- src/lib.rt:99:9
 element-set-from-piece : tie.Need-element-set-from-piece
 element-set-from-piece c = search needs
 
--- src/lib.rt:100:23
 add-plan : tie.Need-add-plan
 add-plan c = search needs
 
--- src/lib.rt:94:1
 returns : tie.Need-returns
 unfolding placedOn
 returns c = simp (lt-ltb _ _ (c .if1 .taken))
 
--- src/lib.rt:94:1
 returns-2 : tie.Need-returns-2
 unfolding placedOn
 returns-2 c = simp (le-ltb _ _ (c .if1 .left))

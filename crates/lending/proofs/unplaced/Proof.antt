@@ -5,11 +5,9 @@ use Rattle.lending.proofs.unplaced.Reads as reads
 use Rattle.lending.proofs.unplaced.Lts as lts
 use Rattle.lending.proofs.no_piece.Reads as no-piece-reads
 
--- src/lib.rt:83:9
 no-piece-requires : tie.Need-no-piece-requires
 no-piece-requires c κs = search needs
 
--- src/lib.rt:79:1
 returns : tie.Need-returns
 returns c = simp (c .no-piece .ensures)
 

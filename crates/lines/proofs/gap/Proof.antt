@@ -7,19 +7,15 @@ use Rattle.lines.proofs.gap.Reads as reads
 use Rattle.lines.proofs.gap.Lts as lts
 use Rattle.texts.proofs.Text.words.Reads as words-reads
 
--- src/lib.rt:210:13
 returns : tie.Need-returns
 returns c = no-gap _ _ (c .if1 .taken)
 
--- src/lib.rt:212:20
 slice-aggregate-words : tie.Need-slice-aggregate-words
 slice-aggregate-words c = search needs
 
--- src/lib.rt:212:9
 words-requires : tie.Need-words-requires
 words-requires c κs = search needs
 
--- src/lib.rt:206:5
 returns-2 : tie.Need-returns-2
 returns-2 c = c .words .ensures ∙ some-gap _ _ (c .before .before .if1 .left)
 

@@ -7,36 +7,28 @@ use Rattle.lines.proofs.on_core.Lts as lts
 use Rattle.texts.proofs.Text.number.Reads as number-reads
 use Rattle.texts.proofs.Text.words.Reads as words-reads
 
--- src/lib.rt:200:40
 enum-told : tie.Need-enum-told
 enum-told c = search needs
 
--- src/lib.rt:200:40
 slice-aggregate-words : tie.Need-slice-aggregate-words
 slice-aggregate-words c = search needs
 
--- src/lib.rt:200:29
 words-requires : tie.Need-words-requires
 words-requires c κs = search needs
 
--- src/lib.rt:201:26
 enum-known-runner : tie.Need-enum-known-runner
 enum-known-runner c = search needs
 
--- src/lib.rt:201:47
 cast-number : tie.Need-cast-number
 cast-number c = search needs
 
--- src/lib.rt:201:35
 number-requires : tie.Need-number-requires
 number-requires c κs = search needs
 
--- src/lib.rt:196:5
 returns : tie.Need-returns
 unfolding ascii puts
 returns c = simp (c .before .before .enum-told .given .1, c .words .ensures)
 
--- src/lib.rt:196:5
 returns-2 : tie.Need-returns-2
 returns-2 c = simp (c .before .before .before .runner .given .1, c .number .ensures)
 

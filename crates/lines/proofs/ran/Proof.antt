@@ -6,27 +6,21 @@ use Rattle.lines.proofs.ran.Lts as lts
 use Rattle.texts.proofs.Text.refusal.Reads as refusal-reads
 use Rattle.lines.proofs.runs.Reads as runs-reads
 
--- src/lib.rt:262:33
 enum-told : tie.Need-enum-told
 enum-told c = search needs
 
--- src/lib.rt:262:33
 runs-requires : tie.Need-runs-requires
 runs-requires c κs = search needs
 
--- src/lib.rt:263:29
 enum-known-answer : tie.Need-enum-known-answer
 enum-known-answer c = search needs
 
--- src/lib.rt:263:41
 refusal-requires : tie.Need-refusal-requires
 refusal-requires c κs = search needs
 
--- src/lib.rt:256:5
 returns : tie.Need-returns
 returns c = simp (c .before .enum-told .given .1, c .runs .ensures)
 
--- src/lib.rt:256:5
 returns-2 : tie.Need-returns-2
 returns-2 c = simp (c .before .before .answer .given .1, c .refusal .ensures)
 

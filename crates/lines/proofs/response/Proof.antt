@@ -9,51 +9,39 @@ use Rattle.lines.proofs.response.Lts as lts
 use Rattle.texts.proofs.Text.number.Reads as number-reads
 use Rattle.texts.proofs.Text.words.Reads as words-reads
 
--- src/lib.rt:273:32
 slice-aggregate-words : tie.Need-slice-aggregate-words
 slice-aggregate-words c = search needs
 
--- src/lib.rt:273:21
 words-requires : tie.Need-words-requires
 words-requires c κs = search needs
 
--- src/lib.rt:273:21
 number-requires : tie.Need-number-requires
 number-requires c κs = search needs
 
--- src/lib.rt:275:20
 slice-aggregate-words-2 : tie.Need-slice-aggregate-words-2
 slice-aggregate-words-2 c = search needs
 
--- src/lib.rt:273:21
 words-requires-2 : tie.Need-words-requires-2
 words-requires-2 c κs = search needs
 
--- src/lib.rt:273:13
 number-requires-2 : tie.Need-number-requires-2
 number-requires-2 c κs = search needs
 
--- src/lib.rt:278:20
 slice-aggregate-words-3 : tie.Need-slice-aggregate-words-3
 slice-aggregate-words-3 c = search needs
 
--- src/lib.rt:277:9
 words-requires-3 : tie.Need-words-requires-3
 words-requires-3 c κs = search needs
 
--- src/lib.rt:277:9
 number-requires-3 : tie.Need-number-requires-3
 number-requires-3 c κs = search needs
 
--- src/lib.rt:280:20
 slice-aggregate-words-4 : tie.Need-slice-aggregate-words-4
 slice-aggregate-words-4 c = search needs
 
--- src/lib.rt:277:9
 words-requires-4 : tie.Need-words-requires-4
 words-requires-4 c κs = search needs
 
--- src/lib.rt:270:5
 returns : tie.Need-returns
 unfolding responseText ascii puts
 returns c = simp (puts-parts, c .words4 .ensures, c .before .before .number3 .ensures, c .before .before .before .words3 .ensures, c .before .before .before .before .before .number2 .ensures, c .before .before .before .before .before .before .words2 .ensures, c .before .before .before .before .before .before .before .before .number .ensures, c .before .before .before .before .before .before .before .before .before .words .ensures)

@@ -7,15 +7,12 @@ use Rattle.lines.proofs.run.Lts as lts
 use Rattle.dispatch.proofs.fresh.Reads as fresh-reads
 use Rattle.lines.proofs.run_from.Reads as run-from-reads
 
--- src/lib.rt:286:30
 fresh-requires : tie.Need-fresh-requires
 fresh-requires c κs = search needs
 
--- src/lib.rt:286:9
 run-from-requires : tie.Need-run-from-requires
 run-from-requires c κs = search needs
 
--- src/lib.rt:283:5
 returns : tie.Need-returns
 returns c = rw (c .run-from .ensures, c .before .fresh .ensures) (ran-lines (c .before .before .args .text) (c .before .before .args .plan) (c .before .before .args .ticks))
 

@@ -7,31 +7,24 @@ use Rattle.texts.proofs.Text.empty.Reads as empty-reads
 use Rattle.lines.proofs.run.Reads as run-reads
 use Rattle.texts.proofs.refused.Reads as refused-reads
 
--- src/lib.rt:357:29
 enum-told : tie.Need-enum-told
 enum-told c = search needs
 
--- src/lib.rt:357:29
 empty-requires : tie.Need-empty-requires
 empty-requires c κs = search needs
 
--- src/lib.rt:357:29
 run-requires : tie.Need-run-requires
 run-requires c κs = search needs
 
--- src/lib.rt:358:25
 enum-known-answer : tie.Need-enum-known-answer
 enum-known-answer c = search needs
 
--- src/lib.rt:358:37
 refused-requires : tie.Need-refused-requires
 refused-requires c κs = search needs
 
--- src/lib.rt:352:1
 returns : tie.Need-returns
 returns c = simp (c .before .before .enum-told .given .1, c .run .ensures, c .before .empty .ensures)
 
--- src/lib.rt:352:1
 returns-2 : tie.Need-returns-2
 returns-2 c = simp (c .before .before .answer .given .1, c .refused .ensures)
 

@@ -24,52 +24,40 @@ Inv-loop cores runs most t₀ x₀ t10 t x = (x ≤ most) × (most ≤ 16) × (t
 abbrev μ-loop : tie.MeasureT-loop
 μ-loop cores runs most t₀ x₀ t10 t x = most - x
 
--- src/lib.rt:219:13
 smaller-requires : tie.Need-smaller-requires Inv-loop μ-loop
 smaller-requires c κs = search needs
 
--- src/lib.rt:222:9
 loop-holds : tie.Need-loop-holds Inv-loop μ-loop
 unfolding row puts
 loop-holds c = (search needs, omega (arith, c .smaller .ensures), refl)
 
--- src/lib.rt:223:23
 mul-run : tie.Need-mul-run Inv-loop μ-loop
 mul-run c = search needs
 
--- src/lib.rt:223:23
 array-copy-out-run : tie.Need-array-copy-out-run Inv-loop μ-loop
 array-copy-out-run c = search needs
 
--- src/lib.rt:225:17
 gap-requires : tie.Need-gap-requires Inv-loop μ-loop
 gap-requires c κs = search needs
 
--- src/lib.rt:225:13
 on-core-requires : tie.Need-on-core-requires Inv-loop μ-loop
 on-core-requires c κs = search needs
 
--- src/lib.rt:226:13
 add-x : tie.Need-add-x Inv-loop μ-loop
 add-x c = search needs
 
--- src/lib.rt:222:9
 loop-less : tie.Need-loop-less Inv-loop μ-loop
 loop-less c = search needs
 
--- src/lib.rt:222:9
 loop-again : tie.Need-loop-again Inv-loop μ-loop
 loop-again c = (search needs, search needs, row-turn _ _ _ _ _ (c .before .before .before .before .loop .inv .2) (rw (puts-parts, ← c .before .gap .ensures) (c .on-core .ensures)))
 
--- src/lib.rt:228:17
 slice-aggregate-words : tie.Need-slice-aggregate-words Inv-loop μ-loop
 slice-aggregate-words c = search needs
 
--- src/lib.rt:228:9
 words-requires : tie.Need-words-requires Inv-loop μ-loop
 words-requires c κs = search needs
 
--- src/lib.rt:216:5
 returns : tie.Need-returns Inv-loop μ-loop
 unfolding runsText ascii puts
 returns c = let e : c .before .before .before .loop .x ≡ c .before .before .before .before .smaller .result = omega arith in simp (puts-parts, c .words .ensures, c .before .before .before .loop .inv .2, e, c .before .before .before .before .smaller .ensures)

@@ -7,15 +7,12 @@ use Rattle.lines.proofs.totals.Lts as lts
 use Rattle.texts.proofs.Text.empty.Reads as empty-reads
 use Rattle.lines.proofs.counts.Reads as counts-reads
 
--- src/lib.rt:295:5
 empty-requires : tie.Need-empty-requires
 empty-requires c κs = search needs
 
--- src/lib.rt:295:5
 counts-requires : tie.Need-counts-requires
 counts-requires c κs = search needs
 
--- src/lib.rt:292:1
 returns : tie.Need-returns
 returns c = simp (c .counts .ensures (c .before .before .args .state) refl refl, c .before .empty .ensures)
 

@@ -22,52 +22,40 @@ Inv-loop plan watched t₀ most i₀ t i = (i ≤ most) × (most ≤ 64) × (t �
 abbrev μ-loop : tie.MeasureT-loop
 μ-loop plan watched t₀ most i₀ t i = most - i
 
--- src/lib.rt:342:9
 totals-requires : tie.Need-totals-requires Inv-loop μ-loop
 totals-requires c κs = search needs
 
--- src/lib.rt:343:9
 smaller-requires : tie.Need-smaller-requires Inv-loop μ-loop
 smaller-requires c κs = search needs
 
--- src/lib.rt:345:5
 loop-holds : tie.Need-loop-holds Inv-loop μ-loop
 unfolding row puts
 loop-holds c = (search needs, omega (arith, c .smaller .ensures), refl)
 
--- src/lib.rt:346:27
 mul-response : tie.Need-mul-response Inv-loop μ-loop
 mul-response c = search needs
 
--- src/lib.rt:346:27
 element-copy-out-response : tie.Need-element-copy-out-response Inv-loop μ-loop
 element-copy-out-response c = search needs
 
--- src/lib.rt:346:47
 mul-response-2 : tie.Need-mul-response-2 Inv-loop μ-loop
 mul-response-2 c = search needs
 
--- src/lib.rt:346:47
 element-copy-out-response-2 : tie.Need-element-copy-out-response-2 Inv-loop μ-loop
 element-copy-out-response-2 c = search needs
 
--- src/lib.rt:346:9
 response-requires : tie.Need-response-requires Inv-loop μ-loop
 response-requires c κs = search needs
 
--- src/lib.rt:347:9
 add-i : tie.Need-add-i Inv-loop μ-loop
 add-i c = search needs
 
--- src/lib.rt:345:5
 loop-less : tie.Need-loop-less Inv-loop μ-loop
 loop-less c = search needs
 
--- src/lib.rt:345:5
 loop-again : tie.Need-loop-again Inv-loop μ-loop
 loop-again c = (search needs, search needs, row-turn _ _ _ _ _ (c .before .before .before .loop .inv .2) (c .response .ensures))
 
--- src/lib.rt:339:1
 returns : tie.Need-returns Inv-loop μ-loop
 unfolding watchedText
 returns c = let e : c .before .loop .i ≡ c .before .before .smaller .result = omega arith in simp (puts-parts, c .before .loop .inv .2, e, c .before .before .smaller .ensures, c .before .before .before .totals .ensures)

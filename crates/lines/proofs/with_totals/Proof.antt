@@ -6,11 +6,9 @@ use Rattle.lines.proofs.with_totals.Reads as reads
 use Rattle.lines.proofs.with_totals.Lts as lts
 use Rattle.lines.proofs.counts.Reads as counts-reads
 
--- src/lib.rt:339:5
 counts-requires : tie.Need-counts-requires
 counts-requires c κs = search needs
 
--- src/lib.rt:336:1
 returns : tie.Need-returns
 returns c = c .counts .ensures (c .before .args .state) refl refl
 

@@ -9,39 +9,30 @@ use Rattle.listing.proofs.head.Lts as lts
 use Rattle.texts.proofs.Text.number.Reads as number-reads
 use Rattle.texts.proofs.Text.words.Reads as words-reads
 
--- src/lib.rt:154:20
 slice-aggregate-words : tie.Need-slice-aggregate-words
 slice-aggregate-words c = search needs
 
--- src/lib.rt:154:9
 words-requires : tie.Need-words-requires
 words-requires c κs = search needs
 
--- src/lib.rt:154:9
 number-requires : tie.Need-number-requires
 number-requires c κs = search needs
 
--- src/lib.rt:156:20
 slice-aggregate-words-2 : tie.Need-slice-aggregate-words-2
 slice-aggregate-words-2 c = search needs
 
--- src/lib.rt:154:9
 words-requires-2 : tie.Need-words-requires-2
 words-requires-2 c κs = search needs
 
--- src/lib.rt:154:9
 number-requires-2 : tie.Need-number-requires-2
 number-requires-2 c κs = search needs
 
--- src/lib.rt:158:20
 slice-aggregate-words-3 : tie.Need-slice-aggregate-words-3
 slice-aggregate-words-3 c = search needs
 
--- src/lib.rt:154:9
 words-requires-3 : tie.Need-words-requires-3
 words-requires-3 c κs = search needs
 
--- src/lib.rt:151:5
 returns : tie.Need-returns
 unfolding headText ascii puts
 returns c = simp (puts-parts, c .words3 .ensures, c .before .before .number2 .ensures, c .before .before .before .words2 .ensures, c .before .before .before .before .before .number .ensures, c .before .before .before .before .before .before .words .ensures)

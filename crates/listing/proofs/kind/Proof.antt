@@ -6,36 +6,28 @@ use Rattle.listing.proofs.kind.Reads as reads
 use Rattle.listing.proofs.kind.Lts as lts
 use Rattle.texts.proofs.Text.words.Reads as words-reads
 
--- src/lib.rt:165:39
 enum-told : tie.Need-enum-told
 enum-told c = search needs
 
--- src/lib.rt:165:39
 slice-aggregate-words : tie.Need-slice-aggregate-words
 slice-aggregate-words c = search needs
 
--- src/lib.rt:165:28
 words-requires : tie.Need-words-requires
 words-requires c κs = search needs
 
--- src/lib.rt:166:39
 enum-told-2 : tie.Need-enum-told-2
 enum-told-2 c = search needs
 
--- src/lib.rt:166:39
 slice-aggregate-words-2 : tie.Need-slice-aggregate-words-2
 slice-aggregate-words-2 c = search needs
 
--- src/lib.rt:166:28
 words-requires-2 : tie.Need-words-requires-2
 words-requires-2 c κs = search needs
 
--- src/lib.rt:161:5
 returns : tie.Need-returns
 unfolding ascii puts
 returns c = simp (c .before .before .enum-told .given .1, c .words .ensures)
 
--- src/lib.rt:161:5
 returns-2 : tie.Need-returns-2
 unfolding ascii puts
 returns-2 c = simp (c .before .before .enum-told2 .given .1, c .words2 .ensures)

@@ -8,32 +8,25 @@ use Rattle.layout.proofs.plan_table.Reads as plan-table-reads
 use Rattle.listing.proofs.planned.Reads as planned-reads
 use Rattle.texts.proofs.refused.Reads as refused-reads
 
--- src/lib.rt:346:37
 enum-told : tie.Need-enum-told
 enum-told c = search needs
 
--- src/lib.rt:346:37
 plan-table-requires : tie.Need-plan-table-requires
 plan-table-requires c κs = search needs
 
--- src/lib.rt:346:29
 planned-requires : tie.Need-planned-requires
 planned-requires c κs = search needs
 
--- src/lib.rt:347:25
 enum-known-answer : tie.Need-enum-known-answer
 enum-known-answer c = search needs
 
--- src/lib.rt:347:37
 refused-requires : tie.Need-refused-requires
 refused-requires c κs = search needs
 
--- src/lib.rt:341:1
 returns : tie.Need-returns
 unfolding listerText
 returns c = simp (c .before .before .enum-told .given .1, c .planned .ensures, c .before .plan-table .ensures)
 
--- src/lib.rt:341:1
 returns-2 : tie.Need-returns-2
 unfolding listerText
 returns-2 c = simp (c .before .before .answer .given .1, c .refused .ensures)

@@ -21,44 +21,34 @@ Inv-loop plan t₀ most j₀ t j = (j ≤ most) × (most ≤ 128) × (t ≡ puts
 abbrev μ-loop : tie.MeasureT-loop
 μ-loop plan t₀ most j₀ t j = most - j
 
--- src/lib.rt:185:13
 head-requires : tie.Need-head-requires Inv-loop μ-loop
 head-requires c κs = search needs
 
--- src/lib.rt:186:13
 smaller-requires : tie.Need-smaller-requires Inv-loop μ-loop
 smaller-requires c κs = search needs
 
--- src/lib.rt:188:9
 loop-holds : tie.Need-loop-holds Inv-loop μ-loop
 unfolding row puts
 loop-holds c = (search needs, omega (arith, c .smaller .ensures), refl)
 
--- src/lib.rt:189:25
 mul-piece : tie.Need-mul-piece Inv-loop μ-loop
 mul-piece c = search needs
 
--- src/lib.rt:189:25
 element-copy-out-piece : tie.Need-element-copy-out-piece Inv-loop μ-loop
 element-copy-out-piece c = search needs
 
--- src/lib.rt:189:13
 piece-requires : tie.Need-piece-requires Inv-loop μ-loop
 piece-requires c κs = search needs
 
--- src/lib.rt:190:13
 add-j : tie.Need-add-j Inv-loop μ-loop
 add-j c = search needs
 
--- src/lib.rt:188:9
 loop-less : tie.Need-loop-less Inv-loop μ-loop
 loop-less c = search needs
 
--- src/lib.rt:188:9
 loop-again : tie.Need-loop-again Inv-loop μ-loop
 loop-again c = (search needs, search needs, row-turn _ _ _ _ _ (c .before .before .before .loop .inv .2) (c .piece .ensures))
 
--- src/lib.rt:182:5
 returns : tie.Need-returns Inv-loop μ-loop
 unfolding listingText
 returns c = let e : c .before .loop .j ≡ c .before .before .smaller .result = omega arith in simp (puts-parts, c .before .loop .inv .2, e, c .before .before .smaller .ensures, c .before .before .before .head .ensures)

@@ -10,51 +10,39 @@ use Rattle.listing.proofs.kind.Reads as kind-reads
 use Rattle.texts.proofs.Text.number.Reads as number-reads
 use Rattle.texts.proofs.Text.words.Reads as words-reads
 
--- src/lib.rt:175:34
 cast-number : tie.Need-cast-number
 cast-number c = search needs
 
--- src/lib.rt:175:22
 number-requires : tie.Need-number-requires
 number-requires c κs = search needs
 
--- src/lib.rt:176:20
 slice-aggregate-words : tie.Need-slice-aggregate-words
 slice-aggregate-words c = search needs
 
--- src/lib.rt:175:22
 words-requires : tie.Need-words-requires
 words-requires c κs = search needs
 
--- src/lib.rt:177:21
 cast-number-2 : tie.Need-cast-number-2
 cast-number-2 c = search needs
 
--- src/lib.rt:175:13
 number-requires-2 : tie.Need-number-requires-2
 number-requires-2 c κs = search needs
 
--- src/lib.rt:178:9
 kind-requires : tie.Need-kind-requires
 kind-requires c κs = search needs
 
--- src/lib.rt:178:34
 cast-number-3 : tie.Need-cast-number-3
 cast-number-3 c = search needs
 
--- src/lib.rt:178:9
 number-requires-3 : tie.Need-number-requires-3
 number-requires-3 c κs = search needs
 
--- src/lib.rt:178:59
 slice-aggregate-words-2 : tie.Need-slice-aggregate-words-2
 slice-aggregate-words-2 c = search needs
 
--- src/lib.rt:178:9
 words-requires-2 : tie.Need-words-requires-2
 words-requires-2 c κs = search needs
 
--- src/lib.rt:171:5
 returns : tie.Need-returns
 unfolding pieceText ascii puts
 returns c = simp (puts-parts, c .words2 .ensures, c .before .before .number3 .ensures, c .before .before .before .before .kind .ensures, c .before .before .before .before .before .number2 .ensures, c .before .before .before .before .before .before .before .words .ensures, c .before .before .before .before .before .before .before .before .before .number .ensures)

@@ -7,31 +7,24 @@ use Rattle.texts.proofs.Text.empty.Reads as empty-reads
 use Rattle.listing.proofs.listing.Reads as listing-reads
 use Rattle.texts.proofs.refused.Reads as refused-reads
 
--- src/lib.rt:335:29
 enum-told : tie.Need-enum-told
 enum-told c = search needs
 
--- src/lib.rt:335:29
 empty-requires : tie.Need-empty-requires
 empty-requires c κs = search needs
 
--- src/lib.rt:335:29
 listing-requires : tie.Need-listing-requires
 listing-requires c κs = search needs
 
--- src/lib.rt:336:25
 enum-known-answer : tie.Need-enum-known-answer
 enum-known-answer c = search needs
 
--- src/lib.rt:336:37
 refused-requires : tie.Need-refused-requires
 refused-requires c κs = search needs
 
--- src/lib.rt:330:1
 returns : tie.Need-returns
 returns c = simp (c .before .before .enum-told .given .1, c .listing .ensures, c .before .empty .ensures)
 
--- src/lib.rt:330:1
 returns-2 : tie.Need-returns-2
 returns-2 c = simp (c .before .before .answer .given .1, c .refused .ensures)
 

@@ -8,31 +8,24 @@ use Rattle.replay.proofs.feed_some.Reads as reads
 use Rattle.replay.proofs.feed_some.Lts as lts
 use Rattle.replay.proofs.read_some.Reads as read-some-reads
 
--- src/main.rt:32:9
 returns : tie.Need-returns
 returns c = search needs
 
--- src/main.rt:37:23
 sub-read-some : tie.Need-sub-read-some
 sub-read-some c = search needs
 
--- src/main.rt:37:23
 part-bytes-start : tie.Need-part-bytes-start
 part-bytes-start c = search needs
 
--- src/main.rt:37:23
 part-bytes-end : tie.Need-part-bytes-end
 part-bytes-end c = let l : length (c .before .before .before .before .args .player .bytes) ≡ 160 = simp length-map at (c .before .before .before .before .good .0 .1 .1 .1 .0 .1 .0 .1) in omega arith
 
--- src/main.rt:37:9
 read-some-requires : tie.Need-read-some-requires
 read-some-requires c κs = search needs
 
--- src/main.rt:42:20
 add-t10 : tie.Need-add-t10
 add-t10 c = search needs
 
--- src/main.rt:26:1
 returns-2 : tie.Need-returns-2
 returns-2 c = search needs
 

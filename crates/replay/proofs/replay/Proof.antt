@@ -17,66 +17,51 @@ Inv-loop plan start player₀ more₀ turns₀ player more turns = Unit {0}
 abbrev μ-loop : tie.MeasureT-loop
 μ-loop plan start player₀ more₀ turns₀ player more turns = turns
 
--- src/main.rt:44:9
 start-requires : tie.Need-start-requires Inv-loop μ-loop
 start-requires c κs = search needs
 
--- src/main.rt:47:5
 loop-holds : tie.Need-loop-holds Inv-loop μ-loop
 loop-holds c = search needs
 
--- src/main.rt:48:13
 feed-some-requires : tie.Need-feed-some-requires Inv-loop μ-loop
 feed-some-requires c κs = search needs
 
--- src/main.rt:49:9
 play-requires : tie.Need-play-requires Inv-loop μ-loop
 play-requires c κs = search needs
 
--- src/main.rt:50:9
 print-requires : tie.Need-print-requires Inv-loop μ-loop
 print-requires c κs = search needs
 
--- src/main.rt:52:9
 sub-turns : tie.Need-sub-turns Inv-loop μ-loop
 sub-turns c = search needs
 
--- src/main.rt:47:5
 loop-less : tie.Need-loop-less Inv-loop μ-loop
 loop-less c = search needs
 
--- src/main.rt:47:5
 loop-again : tie.Need-loop-again Inv-loop μ-loop
 loop-again c = search needs
 
--- src/main.rt:54:9
 last-requires : tie.Need-last-requires Inv-loop μ-loop
 last-requires c κs = search needs
 
--- src/main.rt:55:28
 enum-known-answer : tie.Need-enum-known-answer Inv-loop μ-loop
 enum-known-answer c = search needs
 
--- src/main.rt:56:24
 refused-requires : tie.Need-refused-requires Inv-loop μ-loop
 refused-requires c κs = search needs
 
--- src/main.rt:56:9
 print-requires-2 : tie.Need-print-requires-2 Inv-loop μ-loop
 print-requires-2 c κs = search needs
 
 enum-told : tie.Need-enum-told Inv-loop μ-loop
 enum-told c = search needs
 
--- src/main.rt:58:20
 totals-requires : tie.Need-totals-requires Inv-loop μ-loop
 totals-requires c κs = search needs
 
--- src/main.rt:58:5
 print-requires-3 : tie.Need-print-requires-3 Inv-loop μ-loop
 print-requires-3 c κs = search needs
 
--- src/main.rt:43:1
 returns : tie.Need-returns Inv-loop μ-loop
 returns c = search needs
 

@@ -14,31 +14,24 @@ use Rattle.replays.proofs.ask.Lts as lts
 use Rattle.replays.proofs.read_request.Reads as read-request-reads
 use Rattle.replays.proofs.smaller.Reads as smaller-reads
 
--- src/lib.rt:169:9
 smaller-requires : tie.Need-smaller-requires
 smaller-requires c κs = search needs
 
--- src/lib.rt:170:9
 smaller-requires-2 : tie.Need-smaller-requires-2
 smaller-requires-2 c κs = search needs
 
--- src/lib.rt:171:18
 sub-read-request : tie.Need-sub-read-request
 sub-read-request c = search needs
 
--- src/lib.rt:171:18
 part-read-request-start : tie.Need-part-read-request-start
 part-read-request-start c = search needs
 
--- src/lib.rt:171:18
 part-read-request-end : tie.Need-part-read-request-end
 part-read-request-end c = let l : length (c .before .before .before .before .args .reel .bytes) ≡ 160 = simp length-map at (c .before .before .before .before .good .0 .1 .1 .0 .1 .0 .1) in omega arith
 
--- src/lib.rt:171:5
 read-request-requires : tie.Need-read-request-requires
 read-request-requires c κs = search needs
 
--- src/lib.rt:165:1
 returns : tie.Need-returns
 returns c = c .read-request .ensures ∙ ap (λ (s : List ℕ). requestRead s (placeAt 0)) (handed-is (c .before .before .before .before .before .before .args .reel) _ _ (c .before .before .before .before .smaller .ensures) (c .before .before .before .smaller2 .ensures))
 

@@ -7,11 +7,9 @@ use Rattle.replays.proofs.finishes.Reads as reads
 use Rattle.replays.proofs.finishes.Lts as lts
 use Rattle.replays.proofs.ask.Reads as ask-reads
 
--- src/lib.rt:178:9
 ask-requires : tie.Need-ask-requires
 ask-requires c κs = search needs
 
--- src/lib.rt:175:1
 returns : tie.Need-returns
 returns c = ap (λ (a : Asked). a .finished) (c .before .ask .ensures)
 

@@ -11,27 +11,21 @@ use Rattle.replays.proofs.last.Lts as lts
 use Rattle.replays.proofs.read_request.Reads as read-request-reads
 use Rattle.replays.proofs.smaller.Reads as smaller-reads
 
--- src/lib.rt:279:9
 smaller-requires : tie.Need-smaller-requires
 smaller-requires c κs = search needs
 
--- src/lib.rt:281:9
 returns : tie.Need-returns
 returns c = last-none _ _ (c .before .smaller .ensures) (omega arith)
 
--- src/lib.rt:283:30
 array-share-prefix-bytes : tie.Need-array-share-prefix-bytes
 array-share-prefix-bytes c = let l : length (c .before .before .before .args .player .bytes) ≡ 160 = simp length-map at (c .before .before .before .good .0 .1 .1 .1 .0 .1 .0 .1) in omega arith
 
--- src/lib.rt:283:30
 slice-aggregate-read-request : tie.Need-slice-aggregate-read-request
 slice-aggregate-read-request c = let l : length (c .before .before .before .before .args .player .bytes) ≡ 160 = simp length-map at (c .before .before .before .before .good .0 .1 .1 .1 .0 .1 .0 .1) in sym (length-take-le _ _ (omega arith))
 
--- src/lib.rt:283:9
 read-request-requires : tie.Need-read-request-requires
 read-request-requires c κs = search needs
 
--- src/lib.rt:275:1
 returns-2 : tie.Need-returns-2
 returns-2 c = let l : length (c .before .before .before .before .before .args .player .bytes) ≡ 160 = simp length-map at (c .before .before .before .before .before .good .0 .1 .1 .1 .0 .1 .0 .1) in last-some _ _ _ l (c .before .before .before .smaller .ensures) (c .before .before .if1 .left) (c .read-request .ensures)
 

@@ -17,39 +17,30 @@ Inv-loop count at bytes moved₀ i₀ moved i = (at ≤ count) × (count ≤ 160
 abbrev μ-loop : tie.MeasureT-loop
 μ-loop count at bytes moved₀ i₀ moved i = count - at - i
 
--- src/lib.rt:217:5
 loop-holds : tie.Need-loop-holds Inv-loop μ-loop
 loop-holds c = (search needs, search needs, search needs, search needs, padded-start 160 0 _)
 
--- src/lib.rt:217:15
 sub-loop : tie.Need-sub-loop Inv-loop μ-loop
 sub-loop c = search needs
 
--- src/lib.rt:218:26
 add-moved : tie.Need-add-moved Inv-loop μ-loop
 add-moved c = search needs
 
--- src/lib.rt:218:20
 array-read-moved : tie.Need-array-read-moved Inv-loop μ-loop
 array-read-moved c = search needs
 
--- src/lib.rt:218:9
 array-write-moved : tie.Need-array-write-moved Inv-loop μ-loop
 array-write-moved c = search needs
 
--- src/lib.rt:219:9
 add-i : tie.Need-add-i Inv-loop μ-loop
 add-i c = search needs
 
--- src/lib.rt:217:5
 loop-less : tie.Need-loop-less Inv-loop μ-loop
 loop-less c = search needs
 
--- src/lib.rt:217:5
 loop-again : tie.Need-loop-again Inv-loop μ-loop
 loop-again c = (search needs, search needs, search needs, omega arith, padded-turn 160 0 _ _ _ _ (omega arith) (c .before .loop .inv .4) refl)
 
--- src/lib.rt:211:1
 returns : tie.Need-returns Inv-loop μ-loop
 returns c = let e : c .before .loop .i ≡ c .before .before .args .count - c .before .before .args .at = omega arith in simp (c .before .loop .inv .4, e)
 

@@ -13,39 +13,30 @@ use Rattle.replays.proofs.shoot.Reads as shoot-reads
 use Rattle.replays.proofs.smaller.Reads as smaller-reads
 use Rattle.replays.proofs.whole_requests.Reads as whole-requests-reads
 
--- src/lib.rt:254:9
 smaller-requires : tie.Need-smaller-requires
 smaller-requires c κs = search needs
 
--- src/lib.rt:255:9
 whole-requests-requires : tie.Need-whole-requests-requires
 whole-requests-requires c κs = search needs
 
--- src/lib.rt:260:15
 empty-requires : tie.Need-empty-requires
 empty-requires c κs = search needs
 
--- src/lib.rt:262:9
 shoot-requires : tie.Need-shoot-requires
 shoot-requires c κs = search needs
 
--- src/lib.rt:266:9
 smaller-requires-2 : tie.Need-smaller-requires-2
 smaller-requires-2 c κs = search needs
 
--- src/lib.rt:269:16
 left-requires : tie.Need-left-requires
 left-requires c κs = search needs
 
--- src/lib.rt:270:16
 sub-t15 : tie.Need-sub-t15
 sub-t15 c = search needs
 
--- src/lib.rt:271:16
 further-requires : tie.Need-further-requires
 further-requires c κs = search needs
 
--- src/lib.rt:249:1
 returns : tie.Need-returns
 returns c = let l : length (c .before .before .before .before .before .before .before .before .before .before .before .before .args .player .bytes) ≡ 160 = simp length-map at (c .before .before .before .before .before .before .before .before .before .before .before .before .good .0 .1 .1 .1 .0 .1 .0 .1) in played-is (c .before .before .before .before .before .before .before .before .before .before .before .before .args .plan) (c .before .before .before .before .before .before .before .before .before .before .before .before .args .player) _ _ _ _ _ _ _ l (c .before .before .before .before .before .before .before .before .before .smaller .ensures) (c .before .before .before .before .before .before .before .before .whole-requests .ensures) (c .before .before .before .before .before .before .before .empty .ensures) (c .before .before .before .before .before .before .shoot .ensures) (c .before .before .smaller2 .ensures) (c .before .left .ensures) (c .further .ensures)
 

@@ -9,96 +9,74 @@ use Rattle.replays.proofs.refused.Reads as refused-reads
 use Rattle.replays.proofs.tasks_at.Reads as tasks-at-reads
 use Rattle.replays.proofs.wide.Reads as wide-reads
 
--- src/lib.rt:230:9
 refused-requires : tie.Need-refused-requires
 refused-requires c κs = search needs
 
--- src/lib.rt:230:9
 returns : tie.Need-returns
 unfolding requestRead
 returns c = simp (c .refused .ensures, le-leb _ _ (c .before .if1 .taken))
 
--- src/lib.rt:232:18
 shared-slice-read-wide : tie.Need-shared-slice-read-wide
 shared-slice-read-wide c = search needs
 
--- src/lib.rt:232:9
 wide-requires : tie.Need-wide-requires
 wide-requires c κs = search needs
 
--- src/lib.rt:234:9
 refused-requires-2 : tie.Need-refused-requires-2
 refused-requires-2 c κs = search needs
 
--- src/lib.rt:234:9
 returns-2 : tie.Need-returns-2
 unfolding requestRead
 returns-2 c = simp (c .refused2 .ensures, lt-leb _ _ (c .before .before .before .before .if1 .left), ← c .before .before .wide .ensures .0, lt-ltb _ _ (c .before .if2 .taken))
 
--- src/lib.rt:236:23
 add-if3 : tie.Need-add-if3
 add-if3 c = search needs
 
--- src/lib.rt:237:9
 refused-requires-3 : tie.Need-refused-requires-3
 refused-requires-3 c κs = search needs
 
--- src/lib.rt:237:9
 returns-3 : tie.Need-returns-3
 unfolding requestRead
 returns-3 c = simp (c .refused3 .ensures, lt-leb _ _ (c .before .before .before .before .before .if1 .left), ← c .before .before .before .wide .ensures .0, le-ltb _ _ (c .before .before .if2 .left), le-leb _ _ (c .before .if3 .taken))
 
--- src/lib.rt:239:24
 add-wide : tie.Need-add-wide
 add-wide c = search needs
 
--- src/lib.rt:239:18
 shared-slice-read-wide-2 : tie.Need-shared-slice-read-wide-2
 shared-slice-read-wide-2 c = search needs
 
--- src/lib.rt:239:9
 wide-requires-2 : tie.Need-wide-requires-2
 wide-requires-2 c κs = search needs
 
--- src/lib.rt:241:9
 refused-requires-4 : tie.Need-refused-requires-4
 refused-requires-4 c κs = search needs
 
--- src/lib.rt:241:9
 returns-4 : tie.Need-returns-4
 unfolding requestRead
 returns-4 c = simp (c .refused4 .ensures, lt-leb _ _ (c .before .before .before .before .before .before .before .before .if1 .left), ← c .before .before .before .before .before .before .wide .ensures .0, le-ltb _ _ (c .before .before .before .before .before .if2 .left), lt-leb _ _ (c .before .before .before .before .if3 .left), ← c .before .before .wide2 .ensures .0, lt-ltb _ _ (c .before .if4 .taken))
 
--- src/lib.rt:243:22
 add-if5 : tie.Need-add-if5
 add-if5 c = search needs
 
--- src/lib.rt:243:22
 add-if5-2 : tie.Need-add-if5-2
 add-if5-2 c = search needs
 
--- src/lib.rt:244:9
 refused-requires-5 : tie.Need-refused-requires-5
 refused-requires-5 c κs = search needs
 
--- src/lib.rt:244:9
 returns-5 : tie.Need-returns-5
 unfolding requestRead
 returns-5 c = simp (c .refused5 .ensures, lt-leb _ _ (c .before .before .before .before .before .before .before .before .before .if1 .left), ← c .before .before .before .before .before .before .before .wide .ensures .0, le-ltb _ _ (c .before .before .before .before .before .before .if2 .left), lt-leb _ _ (c .before .before .before .before .before .if3 .left), ← c .before .before .before .wide2 .ensures .0, le-ltb _ _ (c .before .before .if4 .left), lt-ltb _ _ (c .before .if5 .taken))
 
--- src/lib.rt:248:19
 tasks-at-requires : tie.Need-tasks-at-requires
 tasks-at-requires c κs = search needs
 
--- src/lib.rt:249:35
 add-tasks-at : tie.Need-add-tasks-at
 add-tasks-at c = search needs
 
--- src/lib.rt:249:19
 tasks-at-requires-2 : tie.Need-tasks-at-requires-2
 tasks-at-requires-2 c κs = search needs
 
--- src/lib.rt:226:1
 returns-6 : tie.Need-returns-6
 unfolding requestRead
 returns-6 c = simp (lt-leb _ _ (c .before .before .before .before .before .before .before .before .before .before .if1 .left), ← c .before .before .before .before .before .before .before .before .wide .ensures .0, le-ltb _ _ (c .before .before .before .before .before .before .before .if2 .left), lt-leb _ _ (c .before .before .before .before .before .before .if3 .left), ← c .before .before .before .before .wide2 .ensures .0, le-ltb _ _ (c .before .before .before .if4 .left), le-ltb _ _ (c .before .before .if5 .left), c .tasks-at2 .ensures, c .before .tasks-at .ensures)

@@ -5,15 +5,12 @@ use Rattle.replays.proofs.refused.Reads as reads
 use Rattle.replays.proofs.refused.Lts as lts
 use Rattle.replays.proofs.no_tasks.Reads as no-tasks-reads
 
--- src/lib.rt:209:19
 no-tasks-requires : tie.Need-no-tasks-requires
 no-tasks-requires c κs = search needs
 
--- src/lib.rt:210:19
 no-tasks-requires-2 : tie.Need-no-tasks-requires-2
 no-tasks-requires-2 c κs = search needs
 
--- src/lib.rt:204:1
 returns : tie.Need-returns
 returns c = simp (c .no-tasks2 .ensures, c .before .no-tasks .ensures)
 

@@ -7,11 +7,9 @@ use Rattle.replays.proofs.releases.Reads as reads
 use Rattle.replays.proofs.releases.Lts as lts
 use Rattle.replays.proofs.ask.Reads as ask-reads
 
--- src/lib.rt:186:9
 ask-requires : tie.Need-ask-requires
 ask-requires c κs = search needs
 
--- src/lib.rt:183:1
 returns : tie.Need-returns
 returns c = ap (λ (a : Asked). a .released) (c .before .ask .ensures)
 

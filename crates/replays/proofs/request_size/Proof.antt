@@ -8,67 +8,52 @@ use Rattle.replays.proofs.request_size.Reads as reads
 use Rattle.replays.proofs.request_size.Lts as lts
 use Rattle.replays.proofs.wide.Reads as wide-reads
 
--- src/lib.rt:188:9
 returns : tie.Need-returns
 unfolding requestSize
 returns c = (simp (le-leb _ _ (c .if1 .taken)), omega arith)
 
--- src/lib.rt:190:18
 shared-slice-read-wide : tie.Need-shared-slice-read-wide
 shared-slice-read-wide c = search needs
 
--- src/lib.rt:190:9
 wide-requires : tie.Need-wide-requires
 wide-requires c κs = search needs
 
--- src/lib.rt:192:9
 returns-2 : tie.Need-returns-2
 unfolding requestSize
 returns-2 c = (simp (lt-leb _ _ (c .before .before .before .if1 .left), ← c .before .wide .ensures .0, lt-ltb _ _ (c .if2 .taken)), omega arith)
 
--- src/lib.rt:194:23
 add-if3 : tie.Need-add-if3
 add-if3 c = search needs
 
--- src/lib.rt:195:16
 add-result : tie.Need-add-result
 add-result c = search needs
 
--- src/lib.rt:195:9
 returns-3 : tie.Need-returns-3
 unfolding requestSize
 returns-3 c = (simp (lt-leb _ _ (c .before .before .before .before .if1 .left), ← c .before .before .wide .ensures .0, le-ltb _ _ (c .before .if2 .left), le-leb _ _ (c .if3 .taken)), omega arith)
 
--- src/lib.rt:197:24
 add-wide : tie.Need-add-wide
 add-wide c = search needs
 
--- src/lib.rt:197:18
 shared-slice-read-wide-2 : tie.Need-shared-slice-read-wide-2
 shared-slice-read-wide-2 c = search needs
 
--- src/lib.rt:197:9
 wide-requires-2 : tie.Need-wide-requires-2
 wide-requires-2 c κs = search needs
 
--- src/lib.rt:199:16
 add-result-2 : tie.Need-add-result-2
 add-result-2 c = search needs
 
--- src/lib.rt:199:9
 returns-4 : tie.Need-returns-4
 unfolding requestSize
 returns-4 c = (simp (lt-leb _ _ (c .before .before .before .before .before .before .before .if1 .left), ← c .before .before .before .before .before .wide .ensures .0, le-ltb _ _ (c .before .before .before .before .if2 .left), lt-leb _ _ (c .before .before .before .if3 .left), ← c .before .wide2 .ensures .0, lt-ltb _ _ (c .if4 .taken)), omega arith)
 
--- src/lib.rt:201:5
 add-result-3 : tie.Need-add-result-3
 add-result-3 c = search needs
 
--- src/lib.rt:201:5
 add-result-4 : tie.Need-add-result-4
 add-result-4 c = search needs
 
--- src/lib.rt:184:1
 returns-5 : tie.Need-returns-5
 unfolding requestSize
 returns-5 c = (simp (lt-leb _ _ (c .before .before .before .before .before .before .before .if1 .left), ← c .before .before .before .before .before .wide .ensures .0, le-ltb _ _ (c .before .before .before .before .if2 .left), lt-leb _ _ (c .before .before .before .if3 .left), ← c .before .wide2 .ensures .0, le-ltb _ _ (c .if4 .left)), omega arith)

@@ -11,39 +11,30 @@ use Rattle.lines.proofs.ran.Reads as ran-reads
 use Rattle.replays.proofs.request_size.Reads as request-size-reads
 use Rattle.replays.proofs.smaller.Reads as smaller-reads
 
--- src/lib.rt:180:9
 smaller-requires : tie.Need-smaller-requires
 smaller-requires c κs = search needs
 
--- src/lib.rt:181:9
 smaller-requires-2 : tie.Need-smaller-requires-2
 smaller-requires-2 c κs = search needs
 
--- src/lib.rt:182:29
 sub-request-size : tie.Need-sub-request-size
 sub-request-size c = search needs
 
--- src/lib.rt:182:29
 part-request-size-start : tie.Need-part-request-size-start
 part-request-size-start c = search needs
 
--- src/lib.rt:182:29
 part-request-size-end : tie.Need-part-request-size-end
 part-request-size-end c = let l : length (c .before .before .before .before .before .args .reel .bytes) ≡ 160 = simp length-map at (c .before .before .before .before .before .good .0 .1 .1 .0 .1 .0 .1) in omega arith
 
--- src/lib.rt:182:9
 request-size-requires : tie.Need-request-size-requires
 request-size-requires c κs = search needs
 
--- src/lib.rt:186:13
 add-t12 : tie.Need-add-t12
 add-t12 c = search needs
 
--- src/lib.rt:187:15
 ran-requires : tie.Need-ran-requires
 ran-requires c κs = search needs
 
--- src/lib.rt:175:1
 returns : tie.Need-returns
 returns c = shown-is _ _ _ _ _ _ _ _ (c .before .before .before .before .before .smaller .ensures) (c .before .before .before .before .smaller2 .ensures) (c .before .request-size .ensures .0) (c .ran .ensures)
 

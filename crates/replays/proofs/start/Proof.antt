@@ -6,15 +6,12 @@ use Rattle.replays.proofs.start.Lts as lts
 use Rattle.dispatch.proofs.fresh.Reads as fresh-reads
 use Rattle.texts.proofs.Text.empty.Reads as empty-reads
 
--- src/lib.rt:240:16
 fresh-requires : tie.Need-fresh-requires
 fresh-requires c κs = search needs
 
--- src/lib.rt:244:15
 empty-requires : tie.Need-empty-requires
 empty-requires c κs = search needs
 
--- src/lib.rt:236:1
 returns : tie.Need-returns
 returns c = rw (c .before .fresh .ensures, c .empty .ensures)
 

@@ -19,35 +19,27 @@ Inv-loop bytes at n members₀ k₀ members k = (k ≤ n) × (n ≤ 64) × (at +
 abbrev μ-loop : tie.MeasureT-loop
 μ-loop bytes at n members₀ k₀ members k = n - k
 
--- src/lib.rt:176:5
 loop-holds : tie.Need-loop-holds Inv-loop μ-loop
 loop-holds c = (search needs, search needs, search needs, padded-start 64 (taskNo 0) _)
 
--- src/lib.rt:177:35
 add-t8 : tie.Need-add-t8 Inv-loop μ-loop
 add-t8 c = search needs
 
--- src/lib.rt:177:29
 shared-slice-read-t10 : tie.Need-shared-slice-read-t10 Inv-loop μ-loop
 shared-slice-read-t10 c = search needs
 
--- src/lib.rt:177:9
 array-set-from-members : tie.Need-array-set-from-members Inv-loop μ-loop
 array-set-from-members c = search needs
 
--- src/lib.rt:178:9
 add-k : tie.Need-add-k Inv-loop μ-loop
 add-k c = search needs
 
--- src/lib.rt:176:5
 loop-less : tie.Need-loop-less Inv-loop μ-loop
 loop-less c = search needs
 
--- src/lib.rt:176:5
 loop-again : tie.Need-loop-again Inv-loop μ-loop
 loop-again c = (search needs, search needs, search needs, padded-turn 64 (taskNo 0) _ _ _ _ (omega arith) (c .before .before .loop .inv .3) refl)
 
--- src/lib.rt:170:1
 returns : tie.Need-returns Inv-loop μ-loop
 unfolding tasksAt
 returns c = let e : c .before .loop .k ≡ c .before .before .args .n = omega arith in simp (c .before .loop .inv .3, e)

@@ -18,70 +18,54 @@ Inv-loop count bytes at₀ n₀ at n = (count ≤ 160) × (length bytes ≡ 160)
 abbrev μ-loop : tie.MeasureT-loop
 μ-loop count bytes at₀ n₀ at n = 80 - n
 
--- src/lib.rt:152:5
 loop-holds : tie.Need-loop-holds Inv-loop μ-loop
 loop-holds c = search needs
 
--- src/lib.rt:153:34
 sub-read-request : tie.Need-sub-read-request Inv-loop μ-loop
 sub-read-request c = search needs
 
--- src/lib.rt:153:34
 part-read-request-start : tie.Need-part-read-request-start Inv-loop μ-loop
 part-read-request-start c = search needs
 
--- src/lib.rt:153:34
 part-read-request-end : tie.Need-part-read-request-end Inv-loop μ-loop
 part-read-request-end c = search needs
 
--- src/lib.rt:153:13
 read-request-requires : tie.Need-read-request-requires Inv-loop μ-loop
 read-request-requires c κs = search needs
 
--- src/lib.rt:156:13
 enum-told : tie.Need-enum-told Inv-loop μ-loop
 enum-told c = search needs
 
--- src/lib.rt:156:13
 returns : tie.Need-returns Inv-loop μ-loop
 returns c = count-stops _ _ _ _ _ (c .before .before .before .before .before .before .loop .inv .3) (omega arith) (omega arith) (c .before .before .read-request .ensures) _ (c .enum-told .given .1)
 
 enum-told-2 : tie.Need-enum-told-2 Inv-loop μ-loop
 enum-told-2 c = search needs
 
--- src/lib.rt:158:28
 sub-request-size : tie.Need-sub-request-size Inv-loop μ-loop
 sub-request-size c = search needs
 
--- src/lib.rt:158:28
 part-request-size-start : tie.Need-part-request-size-start Inv-loop μ-loop
 part-request-size-start c = search needs
 
--- src/lib.rt:158:28
 part-request-size-end : tie.Need-part-request-size-end Inv-loop μ-loop
 part-request-size-end c = search needs
 
--- src/lib.rt:158:15
 request-size-requires : tie.Need-request-size-requires Inv-loop μ-loop
 request-size-requires c κs = search needs
 
--- src/lib.rt:158:9
 add-at : tie.Need-add-at Inv-loop μ-loop
 add-at c = search needs
 
--- src/lib.rt:159:9
 add-n : tie.Need-add-n Inv-loop μ-loop
 add-n c = search needs
 
--- src/lib.rt:152:5
 loop-less : tie.Need-loop-less Inv-loop μ-loop
 loop-less c = search needs
 
--- src/lib.rt:152:5
 loop-again : tie.Need-loop-again Inv-loop μ-loop
 loop-again c = let d = count-goes _ _ _ _ _ (c .before .before .before .before .before .before .before .before .before .loop .inv .3) (omega arith) (omega arith) (c .before .before .before .before .before .read-request .ensures) _ (c .before .before .before .enum-told2 .given .1) (c .request-size .ensures .0) in (search needs, search needs, count-within _ _ _ _ _ (c .before .before .before .before .before .before .before .before .before .loop .inv .3) (omega arith) (omega arith) (c .before .before .before .before .before .read-request .ensures) _ d, d)
 
--- src/lib.rt:146:1
 returns-2 : tie.Need-returns-2 Inv-loop μ-loop
 returns-2 c = counted-end _ _ _ (c .before .loop .inv .3) (omega arith)
 

@@ -20,56 +20,43 @@ Inv-loop plan state count set₀ i₀ set i = (i ≤ count) × (count ≤ 64) ×
 abbrev μ-loop : tie.MeasureT-loop
 μ-loop plan state count set₀ i₀ set i = count - i
 
--- src/lib.rt:92:9
 smaller-requires : tie.Need-smaller-requires Inv-loop μ-loop
 smaller-requires c κs = search needs
 
--- src/lib.rt:93:9
 no-tasks-requires : tie.Need-no-tasks-requires Inv-loop μ-loop
 no-tasks-requires c κs = search needs
 
--- src/lib.rt:95:5
 loop-holds : tie.Need-loop-holds Inv-loop μ-loop
 unfolding allowedBelow
 loop-holds c = (search needs, omega (arith, c .before .smaller .ensures), c .no-tasks .ensures)
 
--- src/lib.rt:96:46
 mul-may-be-released : tie.Need-mul-may-be-released Inv-loop μ-loop
 mul-may-be-released c = search needs
 
--- src/lib.rt:96:46
 element-copy-out-may-be-released : tie.Need-element-copy-out-may-be-released Inv-loop μ-loop
 element-copy-out-may-be-released c = search needs
 
--- src/lib.rt:96:61
 mul-may-be-released-2 : tie.Need-mul-may-be-released-2 Inv-loop μ-loop
 mul-may-be-released-2 c = search needs
 
--- src/lib.rt:96:61
 element-copy-out-may-be-released-2 : tie.Need-element-copy-out-may-be-released-2 Inv-loop μ-loop
 element-copy-out-may-be-released-2 c = search needs
 
--- src/lib.rt:96:30
 may-be-released-requires : tie.Need-may-be-released-requires Inv-loop μ-loop
 may-be-released-requires c κs = search needs
 
--- src/lib.rt:96:9
 joined-requires : tie.Need-joined-requires Inv-loop μ-loop
 joined-requires c κs = (omega (arith, ap (λ (u : Tasks). u .count) (c .before .before .before .before .loop .inv .2), allowed-few (c .before .before .before .before .before .before .before .args .t1) (c .before .before .before .before .before .before .before .args .t2) (c .before .before .before .before .loop .i)), search needs)
 
--- src/lib.rt:97:9
 add-i : tie.Need-add-i Inv-loop μ-loop
 add-i c = search needs
 
--- src/lib.rt:95:5
 loop-less : tie.Need-loop-less Inv-loop μ-loop
 loop-less c = search needs
 
--- src/lib.rt:95:5
 loop-again : tie.Need-loop-again Inv-loop μ-loop
 loop-again c = (search needs, search needs, allowed-turn (c .before .before .before .before .before .before .before .before .args .t1) (c .before .before .before .before .before .before .before .before .args .t2) _ _ _ _ (c .before .before .before .before .before .loop .inv .2) (c .before .may-be-released .ensures) (c .joined .ensures))
 
--- src/lib.rt:89:1
 returns : tie.Need-returns Inv-loop μ-loop
 returns c = let e : c .before .loop .i ≡ c .before .before .before .smaller .result = omega arith in simp (c .before .loop .inv .2, e, c .before .before .before .smaller .ensures)
 

@@ -7,19 +7,15 @@ use Rattle.dispatch.proofs.tick.Reads as tick-reads
 use Rattle.runs.proofs.all_allowed.Reads as all-allowed-reads
 use Rattle.runs.proofs.no_tasks.Reads as no-tasks-reads
 
--- src/lib.rt:106:33
 no-tasks-requires : tie.Need-no-tasks-requires
 no-tasks-requires c κs = search needs
 
--- src/lib.rt:106:45
 all-allowed-requires : tie.Need-all-allowed-requires
 all-allowed-requires c κs = search needs
 
--- src/lib.rt:106:5
 tick-requires : tie.Need-tick-requires
 tick-requires c κs = search needs
 
--- src/lib.rt:103:1
 returns : tie.Need-returns
 returns c = simp (c .tick .ensures, c .before .all-allowed .ensures, c .before .before .no-tasks .ensures)
 

@@ -4,23 +4,18 @@ use Rattle.runs.proofs.joined.Tie as tie
 use Rattle.runs.proofs.joined.Reads as reads
 use Rattle.runs.proofs.joined.Lts as lts
 
--- src/lib.rt:81:34
 cast-t7 : tie.Need-cast-t7
 cast-t7 c = search needs
 
--- src/lib.rt:81:9
 element-set-from-more : tie.Need-element-set-from-more
 element-set-from-more c = search needs
 
--- src/lib.rt:82:22
 add-more : tie.Need-add-more
 add-more c = search needs
 
--- src/lib.rt:83:9
 returns : tie.Need-returns
 returns c = simp (c .if1 .taken)
 
--- src/lib.rt:74:1
 returns-2 : tie.Need-returns-2
 returns-2 c = search needs
 

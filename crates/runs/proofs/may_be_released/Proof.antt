@@ -4,27 +4,21 @@ use Rattle.runs.proofs.may_be_released.Tie as tie
 use Rattle.runs.proofs.may_be_released.Reads as reads
 use Rattle.runs.proofs.may_be_released.Lts as lts
 
--- src/lib.rt:67:25
 enum-told : tie.Need-enum-told
 enum-told c = search needs
 
--- src/lib.rt:68:26
 enum-told-2 : tie.Need-enum-told-2
 enum-told-2 c = search needs
 
--- src/lib.rt:69:25
 enum-told-3 : tie.Need-enum-told-3
 enum-told-3 c = search needs
 
--- src/lib.rt:62:1
 returns : tie.Need-returns
 returns c = search needs
 
--- src/lib.rt:62:1
 returns-2 : tie.Need-returns-2
 returns-2 c = search needs
 
--- src/lib.rt:62:1
 returns-3 : tie.Need-returns-3
 returns-3 c = simp (c .before .before .enum-told3 .given .1)
 

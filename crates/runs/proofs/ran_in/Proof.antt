@@ -19,40 +19,31 @@ Inv-loop cores i runs most ran₀ x₀ ran x = (x ≤ most) × (most ≤ 16) × 
 abbrev μ-loop : tie.MeasureT-loop
 μ-loop cores i runs most ran₀ x₀ ran x = most - x
 
--- src/lib.rt:113:9
 smaller-requires : tie.Need-smaller-requires Inv-loop μ-loop
 smaller-requires c κs = search needs
 
--- src/lib.rt:116:5
 loop-holds : tie.Need-loop-holds Inv-loop μ-loop
 unfolding any
 loop-holds c = (search needs, omega (arith, c .smaller .ensures), refl)
 
--- src/lib.rt:117:34
 mul-runs-here : tie.Need-mul-runs-here Inv-loop μ-loop
 mul-runs-here c = search needs
 
--- src/lib.rt:117:34
 array-copy-out-runs-here : tie.Need-array-copy-out-runs-here Inv-loop μ-loop
 array-copy-out-runs-here c = search needs
 
--- src/lib.rt:117:21
 runs-here-requires : tie.Need-runs-here-requires Inv-loop μ-loop
 runs-here-requires c κs = search needs
 
--- src/lib.rt:118:9
 add-x : tie.Need-add-x Inv-loop μ-loop
 add-x c = search needs
 
--- src/lib.rt:116:5
 loop-less : tie.Need-loop-less Inv-loop μ-loop
 loop-less c = search needs
 
--- src/lib.rt:116:5
 loop-again : tie.Need-loop-again Inv-loop μ-loop
 loop-again c = (search needs, search needs, simp (any-more, ← c .before .before .before .loop .inv .2, c .runs-here .ensures))
 
--- src/lib.rt:110:1
 returns : tie.Need-returns Inv-loop μ-loop
 returns c = let e : c .before .loop .x ≡ c .before .before .smaller .result = omega arith in simp (c .before .loop .inv .2, e, c .before .before .smaller .ensures)
 

@@ -5,23 +5,18 @@ use Rattle.runs.proofs.runs_here.Reads as reads
 use Rattle.runs.proofs.runs_here.Lts as lts
 use Rattle.tasks.proofs.TaskNo.index.Reads as index-reads
 
--- src/lib.rt:104:25
 enum-told : tie.Need-enum-told
 enum-told c = search needs
 
--- src/lib.rt:105:22
 enum-known-runner : tie.Need-enum-known-runner
 enum-known-runner c = search needs
 
--- src/lib.rt:105:31
 index-requires : tie.Need-index-requires
 index-requires c κs = search needs
 
--- src/lib.rt:99:1
 returns : tie.Need-returns
 returns c = search needs
 
--- src/lib.rt:99:1
 returns-2 : tie.Need-returns-2
 returns-2 c = simp (c .before .before .runner .given .1, c .index .ensures .0)
 

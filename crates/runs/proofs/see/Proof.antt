@@ -16,63 +16,48 @@ Inv-loop plan seen state runs count longest₀ i₀ longest i = (i ≤ count) ×
 abbrev μ-loop : tie.MeasureT-loop
 μ-loop plan seen state runs count longest₀ i₀ longest i = count - i
 
--- src/lib.rt:149:9
 smaller-requires : tie.Need-smaller-requires Inv-loop μ-loop
 smaller-requires c κs = search needs
 
--- src/lib.rt:152:5
 loop-holds : tie.Need-loop-holds Inv-loop μ-loop
 loop-holds c = (search needs, omega (arith, c .smaller .ensures), padded-start 64 0 _)
 
--- src/lib.rt:153:26
 ran-in-requires : tie.Need-ran-in-requires Inv-loop μ-loop
 ran-in-requires c κs = search needs
 
--- src/lib.rt:153:55
 mul-age-if : tie.Need-mul-age-if Inv-loop μ-loop
 mul-age-if c = search needs
 
--- src/lib.rt:153:55
 element-copy-out-age-if : tie.Need-element-copy-out-age-if Inv-loop μ-loop
 element-copy-out-age-if c = search needs
 
--- src/lib.rt:153:13
 age-if-requires : tie.Need-age-if-requires Inv-loop μ-loop
 age-if-requires c κs = search needs
 
--- src/lib.rt:154:29
 mul-larger : tie.Need-mul-larger Inv-loop μ-loop
 mul-larger c = search needs
 
--- src/lib.rt:154:29
 element-copy-out-larger : tie.Need-element-copy-out-larger Inv-loop μ-loop
 element-copy-out-larger c = search needs
 
--- src/lib.rt:154:22
 larger-requires : tie.Need-larger-requires Inv-loop μ-loop
 larger-requires c κs = search needs
 
--- src/lib.rt:154:9
 mul-longest : tie.Need-mul-longest Inv-loop μ-loop
 mul-longest c = search needs
 
--- src/lib.rt:154:9
 array-write-longest : tie.Need-array-write-longest Inv-loop μ-loop
 array-write-longest c = search needs
 
--- src/lib.rt:155:9
 add-i : tie.Need-add-i Inv-loop μ-loop
 add-i c = search needs
 
--- src/lib.rt:152:5
 loop-less : tie.Need-loop-less Inv-loop μ-loop
 loop-less c = search needs
 
--- src/lib.rt:152:5
 loop-again : tie.Need-loop-again Inv-loop μ-loop
 loop-again c = (search needs, search needs, padded-turn 64 0 _ _ _ _ (omega arith) (c .before .before .before .before .before .before .loop .inv .2) (rw (c .larger .ensures, c .before .before .age-if .ensures, c .before .before .before .before .ran-in .ensures)))
 
--- src/lib.rt:142:1
 returns : tie.Need-returns Inv-loop μ-loop
 returns c = let e : c .before .loop .i ≡ c .before .before .smaller .result = omega arith in simp (c .before .loop .inv .2, e, c .before .before .smaller .ensures)
 

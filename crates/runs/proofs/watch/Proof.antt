@@ -3,15 +3,12 @@ use Rattle.runs.proofs.Turns.{watched-kept}
 use Rattle.runs.proofs.watch.Statement.{statement}
 use Rattle.runs.proofs.watch.Tie as tie
 
--- src/lib.rt:206:28
 fresh-requires : tie.Need-fresh-requires
 fresh-requires c κs = search needs
 
--- src/lib.rt:206:5
 watch-from-requires : tie.Need-watch-from-requires
 watch-from-requires c κs = search needs
 
--- src/lib.rt:200:1
 returns : tie.Need-returns
 returns c = rw (c .watch-from .ensures, c .before .fresh .ensures) (watched-kept (c .before .before .args .plan) (c .before .before .args .ticks))
 

@@ -23,62 +23,48 @@ Inv-loop cores count tasks i₀ i = (i ≤ count) × (count ≤ 64) × (coresFit
 abbrev μ-loop : tie.MeasureT-loop
 μ-loop cores count tasks i₀ i = count - i
 
--- src/lib.rt:105:9
 counts-requires : tie.Need-counts-requires Inv-loop μ-loop
 counts-requires c κs = search needs
 
--- src/lib.rt:106:9
 returns : tie.Need-returns Inv-loop μ-loop
 returns c = sym (bad-cores _ _ _ (sym (c .before .counts .ensures) ∙ not-true _ (c .if1 .taken)))
 
--- src/lib.rt:108:9
 counts-requires-2 : tie.Need-counts-requires-2 Inv-loop μ-loop
 counts-requires-2 c κs = search needs
 
--- src/lib.rt:109:9
 returns-2 : tie.Need-returns-2 Inv-loop μ-loop
 returns-2 c = sym (bad-count _ _ _ (sym (c .before .before .before .counts .ensures) ∙ not-false _ (c .before .before .if1 .left)) (sym (c .before .counts2 .ensures) ∙ not-true _ (c .if2 .taken)))
 
--- src/lib.rt:112:5
 loop-holds : tie.Need-loop-holds Inv-loop μ-loop
 loop-holds c = let n = sym (c .before .counts2 .ensures) ∙ not-false _ (c .if2 .left) in
     (search needs, counts-say _ _ n .1, sym (c .before .before .before .counts .ensures) ∙ not-false _ (c .before .before .if1 .left), n, λ k h. absurd (omega arith))
 
--- src/lib.rt:113:24
 mul-values-fit : tie.Need-mul-values-fit Inv-loop μ-loop
 mul-values-fit c = search needs
 
--- src/lib.rt:113:24
 array-copy-out-values-fit : tie.Need-array-copy-out-values-fit Inv-loop μ-loop
 array-copy-out-values-fit c = search needs
 
--- src/lib.rt:113:13
 values-fit-requires : tie.Need-values-fit-requires Inv-loop μ-loop
 values-fit-requires c κs = search needs
 
--- src/lib.rt:114:61
 cast-t16 : tie.Need-cast-t16 Inv-loop μ-loop
 cast-t16 c = search needs
 
--- src/lib.rt:114:13
 returns-3 : tie.Need-returns-3 Inv-loop μ-loop
 returns-3 c = let inv = c .before .before .before .before .loop .inv in
     sym (bad-values _ _ _ (inv .2) (inv .3) _ (c .before .before .before .loop-test .taken) (inv .4) (sym (c .before .values-fit .ensures) ∙ not-true _ (c .if3 .taken)))
 
--- src/lib.rt:116:9
 add-i : tie.Need-add-i Inv-loop μ-loop
 add-i c = search needs
 
--- src/lib.rt:112:5
 loop-less : tie.Need-loop-less Inv-loop μ-loop
 loop-less c = search needs
 
--- src/lib.rt:112:5
 loop-again : tie.Need-loop-again Inv-loop μ-loop
 loop-again c = let inv = c .before .before .before .before .loop .inv in
     (search needs, inv .1, inv .2, inv .3, below-more _ _ (inv .4) (sym (c .before .values-fit .ensures) ∙ not-false _ (c .if3 .left)))
 
--- src/lib.rt:102:1
 returns-4 : tie.Need-returns-4 Inv-loop μ-loop
 returns-4 c = let inv = c .before .loop .inv in
     sym (all-good _ _ _ (inv .2) (inv .3) (λ k h. inv .4 k (omega arith)))

@@ -4,11 +4,9 @@ use Rattle.tasks.proofs.counts.Tie as tie
 use Rattle.tasks.proofs.counts.Reads as reads
 use Rattle.tasks.proofs.counts.Lts as lts
 
--- src/lib.rt:96:9
 returns : tie.Need-returns
 returns c = simp (lt-leb _ _ (c .if1 .taken))
 
--- src/lib.rt:92:1
 returns-2 : tie.Need-returns-2
 returns-2 c = simp (le-leb _ _ (c .if1 .left))
 

@@ -5,19 +5,15 @@ use Rattle.tasks.proofs.values_fit.Tie as tie
 use Rattle.tasks.proofs.values_fit.Reads as reads
 use Rattle.tasks.proofs.values_fit.Lts as lts
 
--- src/lib.rt:80:9
 returns : tie.Need-returns
 returns c = simp (lt-leb _ _ (c .if1 .taken))
 
--- src/lib.rt:83:9
 returns-2 : tie.Need-returns-2
 returns-2 c = simp (le-leb _ _ (c .before .before .if1 .left), lt-leb _ _ (c .if2 .taken))
 
--- src/lib.rt:86:9
 returns-3 : tie.Need-returns-3
 returns-3 c = simp (le-leb _ _ (c .before .before .before .before .if1 .left), le-leb _ _ (c .before .before .if2 .left), lt-leb _ _ (c .if3 .taken))
 
--- src/lib.rt:76:1
 returns-4 : tie.Need-returns-4
 returns-4 c = values-last (c .before .before .before .before .before .before .before .args .t) (c .before .before .before .before .before .if1 .left) (c .before .before .before .if2 .left) (c .before .if3 .left)
 

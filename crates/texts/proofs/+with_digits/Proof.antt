@@ -22,7 +22,6 @@ abbrev with-digits-below : ℕ → In 0 with-digits-kinds.ps
 with-digits-below t =
     and 0 with-digits-kinds.ps (falls 0 with-digits-kinds.ps _<_ μ-with-digits t) with-digits.Pre
 
--- src/lib.rt:26:9
 with-digits-returns : (t : ℕ) → with-digits-lts.Need-returns (
   digit-reads.Asked,
   digit-reads.Learnt,
@@ -33,7 +32,6 @@ with-digits-returns : (t : ℕ) → with-digits-lts.Need-returns (
 ) (with-digits-at t) with-digits.Post
 with-digits-returns t c = digits-none _ _ _ (c .if1 .taken)
 
--- src/lib.rt:29:26
 with-digits-digit-requires : (t : ℕ) → with-digits-lts.Need-digit-requires (
   digit-reads.Asked,
   digit-reads.Learnt,
@@ -44,7 +42,6 @@ with-digits-digit-requires : (t : ℕ) → with-digits-lts.Need-digit-requires (
 ) (with-digits-at t) with-digits.Post
 with-digits-digit-requires t c κs = c .if2 .taken
 
--- src/lib.rt:29:9
 with-digits-byte-requires : (t : ℕ) → with-digits-lts.Need-byte-requires (
   digit-reads.Asked,
   digit-reads.Learnt,
@@ -55,7 +52,6 @@ with-digits-byte-requires : (t : ℕ) → with-digits-lts.Need-byte-requires (
 ) (with-digits-at t) with-digits.Post
 with-digits-byte-requires t c κs = tt
 
--- src/lib.rt:29:9
 with-digits-returns-2 : (t : ℕ) → with-digits-lts.Need-returns-2 (
   digit-reads.Asked,
   digit-reads.Learnt,
@@ -66,7 +62,6 @@ with-digits-returns-2 : (t : ℕ) → with-digits-lts.Need-returns-2 (
 ) (with-digits-at t) with-digits.Post
 with-digits-returns-2 t c = rw (c .byte .ensures, c .before .digit .ensures) (digits-last _ _ _ (c .before .before .before .if1 .left) (c .before .before .if2 .taken))
 
--- src/lib.rt:31:23
 with-digits-sub-with-digits : (t : ℕ) → with-digits-lts.Need-sub-with-digits (
   digit-reads.Asked,
   digit-reads.Learnt,
@@ -77,7 +72,6 @@ with-digits-sub-with-digits : (t : ℕ) → with-digits-lts.Need-sub-with-digits
 ) (with-digits-at t) with-digits.Post
 with-digits-sub-with-digits t c = omega (arith, c .before .if1 .left)
 
--- src/lib.rt:31:5
 with-digits-with-digits-requires : (t : ℕ) → with-digits-lts.Need-with-digits-requires (
   digit-reads.Asked,
   digit-reads.Learnt,
@@ -88,7 +82,6 @@ with-digits-with-digits-requires : (t : ℕ) → with-digits-lts.Need-with-digit
 ) (with-digits-at t) with-digits.Post
 with-digits-with-digits-requires t c κs = (omega (arith, c .before .if1 .left, c .before .before .pre .0), tt)
 
--- src/lib.rt:31:43
 with-digits-digit-requires-2 : (t : ℕ) → with-digits-lts.Need-digit-requires-2 (
   digit-reads.Asked,
   digit-reads.Learnt,
@@ -99,7 +92,6 @@ with-digits-digit-requires-2 : (t : ℕ) → with-digits-lts.Need-digit-requires
 ) (with-digits-at t) with-digits.Post
 with-digits-digit-requires-2 t c κs = omega arith
 
--- src/lib.rt:31:5
 with-digits-byte-requires-2 : (t : ℕ) → with-digits-lts.Need-byte-requires-2 (
   digit-reads.Asked,
   digit-reads.Learnt,
@@ -110,7 +102,6 @@ with-digits-byte-requires-2 : (t : ℕ) → with-digits-lts.Need-byte-requires-2
 ) (with-digits-at t) with-digits.Post
 with-digits-byte-requires-2 t c κs = tt
 
--- src/lib.rt:22:1
 with-digits-returns-3 : (t : ℕ) → with-digits-lts.Need-returns-3 (
   digit-reads.Asked,
   digit-reads.Learnt,

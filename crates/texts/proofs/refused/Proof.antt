@@ -6,15 +6,12 @@ use Rattle.texts.proofs.refused.Lts as lts
 use Rattle.texts.proofs.Text.empty.Reads as empty-reads
 use Rattle.texts.proofs.Text.refusal.Reads as refusal-reads
 
--- src/lib.rt:312:5
 empty-requires : tie.Need-empty-requires
 empty-requires c κs = search needs
 
--- src/lib.rt:312:5
 refusal-requires : tie.Need-refusal-requires
 refusal-requires c κs = search needs
 
--- src/lib.rt:309:1
 returns : tie.Need-returns
 returns c = simp (c .refusal .ensures, c .before .empty .ensures)
 

@@ -4,151 +4,114 @@ use Rattle.texts.proofs.told_of.Tie as tie
 use Rattle.texts.proofs.told_of.Reads as reads
 use Rattle.texts.proofs.told_of.Lts as lts
 
--- src/lib.rt:91:27
 enum-known-refusal : tie.Need-enum-known-refusal
 enum-known-refusal c = search needs
 
--- src/lib.rt:92:27
 enum-known-refusal-2 : tie.Need-enum-known-refusal-2
 enum-known-refusal-2 c = search needs
 
--- src/lib.rt:93:30
 enum-known-refusal-3 : tie.Need-enum-known-refusal-3
 enum-known-refusal-3 c = search needs
 
--- src/lib.rt:94:26
 enum-known-refusal-4 : tie.Need-enum-known-refusal-4
 enum-known-refusal-4 c = search needs
 
--- src/lib.rt:95:29
 enum-known-refusal-5 : tie.Need-enum-known-refusal-5
 enum-known-refusal-5 c = search needs
 
--- src/lib.rt:96:27
 enum-known-refusal-6 : tie.Need-enum-known-refusal-6
 enum-known-refusal-6 c = search needs
 
--- src/lib.rt:97:27
 enum-known-refusal-7 : tie.Need-enum-known-refusal-7
 enum-known-refusal-7 c = search needs
 
--- src/lib.rt:97:44
 cast-t23 : tie.Need-cast-t23
 cast-t23 c = search needs
 
--- src/lib.rt:98:26
 enum-known-refusal-8 : tie.Need-enum-known-refusal-8
 enum-known-refusal-8 c = search needs
 
--- src/lib.rt:99:29
 enum-known-refusal-9 : tie.Need-enum-known-refusal-9
 enum-known-refusal-9 c = search needs
 
--- src/lib.rt:100:28
 enum-known-refusal-10 : tie.Need-enum-known-refusal-10
 enum-known-refusal-10 c = search needs
 
--- src/lib.rt:100:45
 cast-t26 : tie.Need-cast-t26
 cast-t26 c = search needs
 
--- src/lib.rt:101:33
 enum-told : tie.Need-enum-told
 enum-told c = search needs
 
--- src/lib.rt:102:33
 enum-told-2 : tie.Need-enum-told-2
 enum-told-2 c = search needs
 
--- src/lib.rt:103:25
 enum-known-refusal-11 : tie.Need-enum-known-refusal-11
 enum-known-refusal-11 c = search needs
 
--- src/lib.rt:103:42
 cast-t27 : tie.Need-cast-t27
 cast-t27 c = search needs
 
--- src/lib.rt:104:26
 enum-known-refusal-12 : tie.Need-enum-known-refusal-12
 enum-known-refusal-12 c = search needs
 
--- src/lib.rt:104:43
 cast-t28 : tie.Need-cast-t28
 cast-t28 c = search needs
 
--- src/lib.rt:105:30
 enum-known-refusal-13 : tie.Need-enum-known-refusal-13
 enum-known-refusal-13 c = search needs
 
--- src/lib.rt:105:47
 cast-t29 : tie.Need-cast-t29
 cast-t29 c = search needs
 
--- src/lib.rt:106:30
 enum-known-refusal-14 : tie.Need-enum-known-refusal-14
 enum-known-refusal-14 c = search needs
 
--- src/lib.rt:87:1
 returns : tie.Need-returns
 returns c = simp (c .before .refusal .given .1)
 
--- src/lib.rt:87:1
 returns-2 : tie.Need-returns-2
 returns-2 c = simp (c .before .refusal2 .given .1)
 
--- src/lib.rt:87:1
 returns-3 : tie.Need-returns-3
 returns-3 c = simp (c .before .refusal3 .given .1)
 
--- src/lib.rt:87:1
 returns-4 : tie.Need-returns-4
 returns-4 c = simp (c .before .refusal4 .given .1)
 
--- src/lib.rt:87:1
 returns-5 : tie.Need-returns-5
 returns-5 c = simp (c .before .refusal5 .given .1)
 
--- src/lib.rt:87:1
 returns-6 : tie.Need-returns-6
 returns-6 c = simp (c .before .refusal6 .given .1)
 
--- src/lib.rt:87:1
 returns-7 : tie.Need-returns-7
 returns-7 c = simp (c .before .before .refusal7 .given .1)
 
--- src/lib.rt:87:1
 returns-8 : tie.Need-returns-8
 returns-8 c = simp (c .before .refusal8 .given .1)
 
--- src/lib.rt:87:1
 returns-9 : tie.Need-returns-9
 returns-9 c = simp (c .before .refusal9 .given .1)
 
--- src/lib.rt:87:1
 returns-10 : tie.Need-returns-10
 returns-10 c = simp (c .before .before .refusal10 .given .1)
 
--- src/lib.rt:87:1
 returns-11 : tie.Need-returns-11
 returns-11 c = search needs
 
--- src/lib.rt:87:1
 returns-12 : tie.Need-returns-12
 returns-12 c = search needs
 
--- src/lib.rt:87:1
 returns-13 : tie.Need-returns-13
 returns-13 c = simp (c .before .before .refusal11 .given .1)
 
--- src/lib.rt:87:1
 returns-14 : tie.Need-returns-14
 returns-14 c = simp (c .before .before .refusal12 .given .1)
 
--- src/lib.rt:87:1
 returns-15 : tie.Need-returns-15
 returns-15 c = simp (c .before .before .refusal13 .given .1)
 
--- src/lib.rt:87:1
 returns-16 : tie.Need-returns-16
 returns-16 c = simp (c .before .refusal14 .given .1)
 

@@ -7,32 +7,24 @@ use borrow.Author.Needs.{needs}
 use Rattle.writing.proofs.put_task.Statement.{statement}
 use Rattle.writing.proofs.put_task.Tie as tie
 
--- src/lib.rt:55:5
 slice-write-out : tie.Need-slice-write-out
 slice-write-out c = search needs
 
--- src/lib.rt:56:5
 slice-write-out-2 : tie.Need-slice-write-out-2
 slice-write-out-2 c = simp length-set (omega arith)
 
--- src/lib.rt:57:5
 slice-write-out-3 : tie.Need-slice-write-out-3
 slice-write-out-3 c = simp length-set (omega arith)
 
--- src/lib.rt:58:5
 put4-requires : tie.Need-put4-requires
 put4-requires c κs = simp length-set (omega arith)
 
--- src/lib.rt:59:5
 put4-requires-2 : tie.Need-put4-requires-2
 put4-requires-2 c κs = omega (arith, simp length-set at (ap length (c .before .before .before .put4 .ensures)))
 
--- src/lib.rt:60:5
 put4-requires-3 : tie.Need-put4-requires-3
 put4-requires-3 c κs = omega (arith, simp length-set at (ap length (c .before .before .before .before .before .before .before .put4 .ensures)), simp length-set at (ap length (c .before .before .before .put42 .ensures)))
 
--- src/lib.rt:51:1
--- src/lib.rt:51:1
 returns : tie.Need-returns
 unfolding taskField
 returns c = simp (c .before .before .put43 .ensures, c .before .before .before .before .before .before .put42 .ensures, c .before .before .before .before .before .before .before .before .before .before .put4 .ensures)

@@ -12,39 +12,30 @@ use Rattle.texts.proofs.Text.words.Reads as words-reads
 use Rattle.texts.proofs.number_of.Reads as number-of-reads
 use Rattle.texts.proofs.told_of.Reads as told-of-reads
 
--- src/lib.rt:168:20
 slice-aggregate-words : tie.Need-slice-aggregate-words
 slice-aggregate-words c = search needs
 
--- src/lib.rt:168:9
 words-requires : tie.Need-words-requires
 words-requires c κs = search needs
 
--- src/lib.rt:169:21
 number-of-requires : tie.Need-number-of-requires
 number-of-requires c κs = search needs
 
--- src/lib.rt:168:9
 number-requires : tie.Need-number-requires
 number-requires c κs = search needs
 
--- src/lib.rt:170:19
 told-of-requires : tie.Need-told-of-requires
 told-of-requires c κs = search needs
 
--- src/lib.rt:168:9
 told-requires : tie.Need-told-requires
 told-requires c κs = search needs
 
--- src/lib.rt:171:20
 slice-aggregate-words-2 : tie.Need-slice-aggregate-words-2
 slice-aggregate-words-2 c = search needs
 
--- src/lib.rt:168:9
 words-requires-2 : tie.Need-words-requires-2
 words-requires-2 c κs = search needs
 
--- src/lib.rt:165:5
 returns : tie.Need-returns
 unfolding refusalText ascii puts
 returns c = simp (puts-parts, c .words2 .ensures, c .before .before .told .ensures, c .before .before .before .told-of .ensures, c .before .before .before .before .number .ensures, c .before .before .before .before .before .number-of .ensures, c .before .before .before .before .before .before .words .ensures)

@@ -16,31 +16,24 @@ Inv-loop words t₀ i₀ t i = (i ≤ length words) × (puts t (drop i words) �
 abbrev μ-loop : tie.MeasureT-loop
 μ-loop words t₀ i₀ t i = length words - i
 
--- src/lib.rt:63:9
 loop-holds : tie.Need-loop-holds Inv-loop μ-loop
 loop-holds c = (search needs, refl)
 
--- src/lib.rt:64:24
 shared-slice-read-byte : tie.Need-shared-slice-read-byte Inv-loop μ-loop
 shared-slice-read-byte c = search needs
 
--- src/lib.rt:64:13
 byte-requires : tie.Need-byte-requires Inv-loop μ-loop
 byte-requires c κs = search needs
 
--- src/lib.rt:65:13
 add-i : tie.Need-add-i Inv-loop μ-loop
 add-i c = search needs
 
--- src/lib.rt:63:9
 loop-less : tie.Need-loop-less Inv-loop μ-loop
 loop-less c = search needs
 
--- src/lib.rt:63:9
 loop-again : tie.Need-loop-again Inv-loop μ-loop
 loop-again c = (search needs, rw (c .byte .ensures) (puts-next _ _ _ _ (c .before .before .loop-test .taken) (c .before .before .before .loop .inv .1)))
 
--- src/lib.rt:58:5
 returns : tie.Need-returns Inv-loop μ-loop
 returns c = puts-end _ _ _ _ (c .loop-test .left) (c .before .loop .inv .1)
 
