@@ -5,10 +5,10 @@ use mathlib.Core.List.{List, [], _∷_, _++_}
 use Prim.Native.Nat.{ℕ, zero, suc, _+_, _-_, _*_, _≤_, _<_, min}
 use native.Mathlib.Nat.{zero-add}
 use native.Mathlib.Omega.{arith}
-use borrow.Author.Tests.{lt-leb}
+use borrow.Author.Tests.{le-ltb, lt-leb}
 use lib.Dec.{leb}
 use lib.ListN.{length, getD, take, drop, length-append, length-take, length-drop}
-use lib.Seq.{drop-append-le, ext-getD, getD-take}
+use lib.Seq.{drop-append-le, ext-getD, getD-take, take-at, drop-at, drop-drop}
 use Rattle.tasks.specs.Below.{padded}
 use Rattle.tasks.proofs.Padded.{padded-in, padded-length}
 use Rattle.tasks.specs.declared.Answer.{Answer}
@@ -17,8 +17,9 @@ use Rattle.plans.specs.declared.Plan.{Plan}
 use Rattle.dispatch.specs.declared.State.{State}
 use Rattle.lines.specs.Lines.{totalsText}
 use Rattle.texts.specs.Text.{textOf}
+use Rattle.reading.specs.Reading.{planRead}
 use Rattle.replays.specs.Requests.{requestSize, requestRead}
-use Rattle.replays.specs.Replay.{placeAt, closed, ticksText, Standing, next, played, wholes, atHand, standing, playedOn}
+use Rattle.replays.specs.Replay.{placeAt, closed, ticksText, told, replayText, start, Standing, next, played, wholes, atHand, standing, playedOn}
 use Rattle.replays.specs.declared.Asked.{Asked}
 use Rattle.replays.specs.declared.Player.{Player}
 use Rattle.replays.proofs.Course.{wholes-none, wholes-more, wholes-zero}
@@ -156,3 +157,15 @@ goes-on-from p w k more z e far =
 pub goes-on : (p : Plan) (w : Player) (k : ℕ) (more : List ℕ) → w .place + length (atHand w) ≤ 18446744073709551615 → GoesOn p w (playedOn p w) k more
 unfolding playedOn
 goes-on p w k more far = goes-on-from p w k more _ refl far
+
+-- a whole input with an accepted plan file prints the ticks from a started player on
+pub replay-begins : (high low : ℕ) (file ticks : List ℕ) → length file ≡ high * 256 + low → planRead file .answer ≡ Accepted
+    → replayText (high ∷ low ∷ (file ++ ticks))
+    ≡ ticksText (length (high ∷ low ∷ (file ++ ticks))) (planRead file .plan) (start (2 + length file) .place) (start (2 + length file) .state) (atHand (start (2 + length file)) ++ ticks)
+unfolding replayText
+replay-begins high low file ticks e ok =
+    let bs : List ℕ = high ∷ low ∷ (file ++ ticks) in
+    let long : 2 + told bs ≤ length bs = omega (arith, e, length-append file ticks) in
+    let body : take (told bs) (drop 2 bs) ≡ file = take-at file ticks (told bs) e in
+    let rest : drop (2 + told bs) bs ≡ ticks = sym (drop-drop (told bs) 2 bs) ∙ drop-at file ticks (told bs) e in
+    rw (le-ltb (length bs) (2 + told bs) long, body, ok, rest, e)
