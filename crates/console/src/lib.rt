@@ -1,5 +1,8 @@
 // Standard input and standard output of the programs: files that come in parts are read to their end, and texts are printed.
 // A read that fails counts as the end of the input.
+ghost use mathlib.Core.Path.{_≡_};
+ghost use lib.ListN.{take};
+ghost use Rattle.reading.specs.Reading.{planRead};
 use libc::STDIN_FILENO;
 use libc::STDOUT_FILENO;
 use reading::ReadPlan;
@@ -47,7 +50,9 @@ pub fn read_plan() -> ReadPlan {
 }
 
 // The first n bytes of a buffer, or all that it has, read as a plan file.
-pub fn plan_in(bytes: &[u8], n: usize) -> ReadPlan {
+pub fn plan_in(bytes: &[u8], n: usize) -> ReadPlan
+    ensures { λ r. ⌜ r ≡ planRead (take n (now (bytes .entry))) ⌝ }
+{
     if bytes.len() < n {
         return reading::read_plan(bytes);
     }

@@ -4,6 +4,7 @@ use Rattle.tasks.proofs.Settling.{Settles, settled}
 use Rattle.reading.proofs.start_table.Reads as start-table
 use Rattle.reading.proofs.start_plan.Reads as start-plan
 use Rattle.reading.proofs.feed.Reads as feed
+use Rattle.reading.proofs.further.Reads as further
 use Rattle.reading.proofs.close_table.Reads as close-table
 use Rattle.reading.proofs.close_plan.Reads as close-plan
 use Rattle.reading.proofs.read_table.Reads as read-table
@@ -29,3 +30,6 @@ read-table-settled κ x e r s p q = settled p q
 
 pub read-plan-settled : (κ : Lfts 1) → Settles (read-plan.Post κ)
 read-plan-settled κ x e r s p q = settled p q
+
+pub further-settled : Settles (further.Post tt)
+further-settled x e r s p q = settled p q

@@ -91,8 +91,8 @@ fn length_for(tag: u8) -> usize
     7
 }
 
-// The place `n` bytes further on.
-fn further(p: usize, n: usize) -> usize
+// The place `n` bytes further on, as far as a number tells.
+pub fn further(p: usize, n: usize) -> usize
     ensures { λ r. ⌜ r ≡ further p n ⌝ }
 {
     if p <= 18446744073709551615 - n {

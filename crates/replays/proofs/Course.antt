@@ -20,6 +20,7 @@ use Rattle.texts.specs.Text.{noText, puts, textOf}
 use Rattle.texts.specs.declared.Text.{Text}
 use Rattle.texts.proofs.Putting.{puts-parts}
 use Rattle.dispatch.specs.declared.State.{State}
+use Rattle.reading.specs.Reading.{further}
 use Rattle.replays.specs.Requests.{requestSize, requestRead}
 use Rattle.replays.specs.Replay.{placeAt, tickAsked, Standing, next, played, wholes, atHand, standing, playedOn, lastAnswer}
 use Rattle.replays.specs.Turns.{endOf, beginOf, handed, askedOf, finishesOf, releasesOf, shownOf, shotOf, shotAfter}
@@ -27,7 +28,7 @@ use Rattle.replays.specs.declared.Asked.{Asked}
 use Rattle.replays.specs.declared.Player.{Player}
 use Rattle.replays.specs.declared.Reel.{Reel}
 use Rattle.replays.specs.declared.Shot.{Shot}
-use Rattle.replays.proofs.Good.{Good, accepted-good, good-size}
+use Rattle.replays.proofs.Good.{Good, accepted-good, size-is}
 
 -- ---- a part of the bytes
 
@@ -87,7 +88,7 @@ counted-turn bs at n c h e =
     let one : wholes (80 - n) (drop at bs) ≡ suc (wholes (79 - n) (drop (requestSize (drop at bs)) (drop at bs))) = ap (λ (k : ℕ). wholes k (drop at bs)) k ∙ wholes-more (79 - n) (drop at bs) e in
     let next : wholes (80 - (n + 1)) (drop (at + requestSize (drop at bs)) bs) ≡ wholes (79 - n) (drop (requestSize (drop at bs)) (drop at bs)) = ap (λ (k : ℕ). wholes k (drop (at + requestSize (drop at bs)) bs)) j ∙ ap (wholes (79 - n)) (sym (drop-drop (requestSize (drop at bs)) at bs)) in
     record {
-      within = omega (arith, good-size (drop at bs) g, g .whole, length-drop at bs, c .within);
+      within = omega (arith, size-is (drop at bs), g .whole, length-drop at bs, c .within);
       most = omega arith;
       still = omega (arith, c .still, one, next);
     }
@@ -162,7 +163,7 @@ nothing-said = refl
 
 -- what is left, as the code moves it to the beginning
 standing-is : (w : Player) (c at : ℕ) (y : Shot) (z : Standing) (moved : List ℕ) (place : ℕ) → length (w .bytes) ≡ 160 → c ≡ min (w .count) 160 → Alike (w .bytes) c y z
-    → at ≡ min (y .reel .at) c → moved ≡ padded 160 (c - at) 0 (λ i. getD (w .bytes) (at + i) 0) → place ≡ min (w .place + at) 18446744073709551615
+    → at ≡ min (y .reel .at) c → moved ≡ padded 160 (c - at) 0 (λ i. getD (w .bytes) (at + i) 0) → place ≡ further (w .place) at
     → record { state = y .state; bytes = moved; count = c - at; place = place; text = y .reel .text } ≡ standing w z
 standing-is w c at y z moved place full hc h ha hm hp =
     let long : length (take c (w .bytes)) ≡ c = length-take c (w .bytes) ∙ omega arith in
@@ -175,7 +176,7 @@ standing-is w c at y z moved place full hc h ha hm hp =
 
 -- what `play` makes of its shot is what the definition says
 pub played-is : (p : Plan) (w : Player) (c n at : ℕ) (u : Text) (y : Shot) (moved : List ℕ) (place : ℕ) → length (w .bytes) ≡ 160 → c ≡ min (w .count) 160 → n ≡ wholes 80 (take c (w .bytes)) → u ≡ noText
-    → y ≡ shotAfter (record { bytes = w .bytes; count = c; at = 0; text = u }) p (w .state) n → at ≡ min (y .reel .at) c → moved ≡ padded 160 (c - at) 0 (λ i. getD (w .bytes) (at + i) 0) → place ≡ min (w .place + at) 18446744073709551615
+    → y ≡ shotAfter (record { bytes = w .bytes; count = c; at = 0; text = u }) p (w .state) n → at ≡ min (y .reel .at) c → moved ≡ padded 160 (c - at) 0 (λ i. getD (w .bytes) (at + i) 0) → place ≡ further (w .place) at
     → record { state = y .state; bytes = moved; count = c - at; place = place; text = y .reel .text } ≡ playedOn p w
 unfolding playedOn
 played-is p w c n at u y moved place full hc hn hu hy ha hm hp =

@@ -43,10 +43,6 @@ module _ (s : List ℕ) (g : Good s) where
   unfolding requestRead
   good-read x = rw (lt-leb (length s) 0 (omega (arith, g .whole)), le-ltb 64 (finishes s) (g .finishing), lt-leb (length s) (1 + finishes s) (omega (arith, g .whole)), le-ltb 64 (releases s) (g .releasing), le-ltb (length s) (2 + finishes s + releases s) (g .whole))
 
-  pub good-size : requestSize s ≡ 2 + finishes s + releases s
-  unfolding requestSize
-  good-size = rw (lt-leb (length s) 0 (omega (arith, g .whole)), le-ltb 64 (finishes s) (g .finishing), lt-leb (length s) (1 + finishes s) (omega (arith, g .whole)), le-ltb 64 (releases s) (g .releasing))
-
   -- the same request with bytes after it
   module _ (more : List ℕ) where
     byte : (i : ℕ) → i < length s → getD (s ++ more) i 0 ≡ getD s i 0
@@ -77,8 +73,12 @@ module _ (s : List ℕ) (g : Good s) where
     pub counts-on : 2 + finishes (s ++ more) + releases (s ++ more) ≡ 2 + finishes s + releases s
     counts-on = omega (arith, same-finishes, same-releases)
 
+pub size-is : (s : List ℕ) → requestSize s ≡ 2 + finishes s + releases s
+unfolding requestSize
+size-is s = refl
+
 pub size-on : (s more : List ℕ) → Good s → requestSize (s ++ more) ≡ requestSize s
-size-on s more g = good-size (s ++ more) (good-on s g more) ∙ counts-on s g more ∙ sym (good-size s g)
+size-on s more g = size-is (s ++ more) ∙ counts-on s g more ∙ sym (size-is s)
 
 pub read-on : (s more : List ℕ) (x : Place) → Good s → requestRead (s ++ more) x ≡ requestRead s x
 read-on s more x g = good-read (s ++ more) (good-on s g more) x ∙ tasks-on s g more ∙ sym (good-read s g x)

@@ -1,11 +1,11 @@
 -- A replay in parts is the replay of the whole: what is played of the bytes at hand is what the whole input prints first, and the rest comes after it.
 use mathlib.Core.Path.{_≡_, refl, sym, ap, _∙_}
 use mathlib.Core.Bool.{cond}
-use mathlib.Core.List.{List, [], _∷_, _++_}
+use mathlib.Core.List.{List, [], _∷_, _++_, append-assoc}
 use Prim.Native.Nat.{ℕ, zero, suc, _+_, _-_, _*_, _≤_, _<_, min}
 use native.Mathlib.Nat.{zero-add}
 use native.Mathlib.Omega.{arith}
-use borrow.Author.Tests.{le-ltb, lt-leb}
+use borrow.Author.Tests.{le-ltb, le-leb, lt-leb}
 use lib.Dec.{leb}
 use lib.ListN.{length, getD, take, drop, length-append, length-take, length-drop}
 use lib.Seq.{drop-append-le, ext-getD, getD-take, take-at, drop-at, drop-drop}
@@ -17,17 +17,13 @@ use Rattle.plans.specs.declared.Plan.{Plan}
 use Rattle.dispatch.specs.declared.State.{State}
 use Rattle.lines.specs.Lines.{totalsText}
 use Rattle.texts.specs.Text.{textOf}
-use Rattle.reading.specs.Reading.{planRead}
+use Rattle.reading.specs.Reading.{further, planRead}
 use Rattle.replays.specs.Requests.{requestSize, requestRead}
 use Rattle.replays.specs.Replay.{placeAt, closed, ticksText, told, replayText, start, Standing, next, played, wholes, atHand, standing, playedOn}
 use Rattle.replays.specs.declared.Asked.{Asked}
 use Rattle.replays.specs.declared.Player.{Player}
 use Rattle.replays.proofs.Course.{wholes-none, wholes-more, wholes-zero}
-use Rattle.replays.proofs.Good.{Good, accepted-good, good-read, good-size, read-on, size-on}
-
-append-assoc : (a b c : List ℕ) → (a ++ b) ++ c ≡ a ++ (b ++ c)
-append-assoc [] b c = refl
-append-assoc (x ∷ a) b c = ap (λ (l : List ℕ). x ∷ l) (append-assoc a b c)
+use Rattle.replays.proofs.Good.{Good, accepted-good, good-read, size-is, read-on, size-on}
 
 -- the place of a good request does not matter
 placed : (bs : List ℕ) (n : ℕ) → Good bs → requestRead bs (placeAt n) ≡ requestRead bs (placeAt 0)
@@ -61,7 +57,7 @@ module _ (p : Plan) where
       let read : requestRead (z .left ++ more) (placeAt n) ≡ requestRead (z .left) (placeAt 0) = read-on (z .left) more (placeAt n) g ∙ placed (z .left) n g in
       let yes : requestRead (z .left) (placeAt 0) .answer ≡ Accepted = ap (λ (a : Asked). a .answer) (good-read (z .left) g (placeAt 0)) in
       let size : requestSize (z .left ++ more) ≡ requestSize (z .left) = size-on (z .left) more g in
-      let rest : drop (requestSize (z .left)) (z .left ++ more) ≡ drop (requestSize (z .left)) (z .left) ++ more = drop-append-le (requestSize (z .left)) (z .left) more (omega (arith, good-size (z .left) g, g .whole)) in
+      let rest : drop (requestSize (z .left)) (z .left ++ more) ≡ drop (requestSize (z .left)) (z .left) ++ more = drop-append-le (requestSize (z .left)) (z .left) more (omega (arith, size-is (z .left), g .whole)) in
       rw (lt-leb (length (z .left ++ more)) 0 long, read, yes, size, rest) (sym (append-assoc (z .said) _ _))
 
   none-played : (k n : ℕ) (z : Standing) (more : List ℕ) (m : ℕ) → m ≡ 0
@@ -90,7 +86,7 @@ module _ (p : Plan) where
           let f : m ≡ suc r = e ∙ wholes-more j (z .left) q ∙ ap (λ (l : List ℕ). suc (wholes j l)) (sym (next-left z)) in
           let one : suc r + k ≡ suc (r + k) = omega arith in
           let far : n + requestSize (z .left) + (length (next p z .left) - length (played p r (next p z) .left)) ≡ n + (length (z .left) - length (played p r (next p z) .left)) =
-          omega (arith, ap length (next-left z), length-drop (requestSize (z .left)) (z .left), good-size (z .left) g, g .whole, shorter r (next p z)) in
+          omega (arith, ap length (next-left z), length-drop (requestSize (z .left)) (z .left), size-is (z .left), g .whole, shorter r (next p z)) in
           rw (f, one, played-first r z, ← far) (first-ticks (r + k) n z more g ∙ ih)
 
   -- no whole request is left, the bytes at hand being at most 2 j
@@ -111,7 +107,7 @@ module _ (p : Plan) where
       go Accepted q ih =
           let g : Good (z .left) = accepted-good (z .left) (placeAt 0) q in
           let f : m ≡ suc r = e ∙ wholes-more j (z .left) q ∙ ap (λ (l : List ℕ). suc (wholes j l)) (sym (next-left z)) in
-          rw (f, played-first r z) (ih (omega (arith, ap length (next-left z), length-drop (requestSize (z .left)) (z .left), good-size (z .left) g, g .whole)))
+          rw (f, played-first r z) (ih (omega (arith, ap length (next-left z), length-drop (requestSize (z .left)) (z .left), size-is (z .left), g .whole)))
 
   -- at the end of the input what is left is no whole request: its refusal, if there is one, and the totals
   pub at-end : (k n : ℕ) (s : State) (bs : List ℕ) → wholes 1 bs ≡ 0 → ticksText (suc k) p n s bs ≡ cond (leb (length bs) 0) (totalsText s) (closed (requestRead bs (placeAt n) .answer) s (totalsText s))
@@ -132,6 +128,10 @@ kept-left l h = ext-getD 0 _ l long (λ i b. getD-take (min (length l) 160) _ i 
     long : length (take (min (length l) 160) (padded 160 (length l) 0 (λ i. getD l i 0))) ≡ length l
     long = length-take (min (length l) 160) _ ∙ omega (arith, padded-length 160 0 (length l) (λ i. getD l i 0))
 
+near : (p n : ℕ) → p + n ≤ 18446744073709551615 → further p n ≡ p + n
+unfolding further
+near p n h = rw (le-leb p (18446744073709551615 - n) (omega arith))
+
 -- one part of the input: the player's text is what the input prints next, the player then stands where the input goes on, and no whole request is left at hand
 pub record GoesOn (p : Plan) (w v : Player) (k : ℕ) (more : List ℕ) : Type 0 where
   pub said : List ℕ
@@ -146,7 +146,7 @@ goes-on-from p w k more z e far =
     let few : length (z .left) ≤ length (atHand w) = rw (← e) (shorter p (wholes 80 (atHand w)) begins) in
     let small : length (atHand w) ≤ 160 = omega (arith, length-take (min (w .count) 160) (w .bytes)) in
     let hand : atHand (standing w z) ≡ z .left = kept-left (z .left) (omega arith) in
-    let there : min (w .place + (length (atHand w) - length (z .left))) 18446744073709551615 ≡ w .place + (length (atHand w) - length (z .left)) = omega arith in
+    let there : further (w .place) (length (atHand w) - length (z .left)) ≡ w .place + (length (atHand w) - length (z .left)) = near (w .place) _ (omega arith) in
     record {
       said = z .said;
       text = refl;

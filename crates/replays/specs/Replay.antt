@@ -10,7 +10,7 @@ use Rattle.tasks.specs.declared.Answer.the-variants.{Accepted, Refused}
 use Rattle.tasks.specs.declared.Place.{Place}
 use Rattle.tasks.specs.declared.Refusal.the-variants.{CutShort}
 use Rattle.plans.specs.declared.Plan.{Plan}
-use Rattle.reading.specs.Reading.{planRead}
+use Rattle.reading.specs.Reading.{further, planRead}
 use Rattle.reading.specs.declared.ReadPlan.{ReadPlan}
 use Rattle.dispatch.specs.Jobs.{freshState}
 use Rattle.dispatch.specs.Tick.{tick}
@@ -95,13 +95,13 @@ atHand w = take (min (w .count) 160) (w .bytes)
 abbrev pub start : ℕ → Player
 start n = record { state = freshState; bytes = replicate 160 0; count = 0; place = n; text = noText }
 
--- all whole requests at hand are played, and what is left stands at the beginning. Places stop at the largest number
+-- all whole requests at hand are played, and what is left stands at the beginning
 abbrev pub standing : Player → Standing → Player
 standing w z = record {
   state = z .state;
   bytes = padded 160 (length (z .left)) 0 (λ i. getD (z .left) i 0);
   count = length (z .left);
-  place = min (w .place + (length (atHand w) - length (z .left))) 18446744073709551615;
+  place = further (w .place) (length (atHand w) - length (z .left));
   text = textOf (z .said);
 }
 

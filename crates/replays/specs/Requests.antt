@@ -25,14 +25,9 @@ releases s = getD s (1 + finishes s) 0
 unfoldable pub tasksAt : List ℕ → ℕ → ℕ → Tasks
 tasksAt s at n = record { members = padded 64 n (taskNo 0) (λ k. taskNo (getD s (at + k) 0)); count = n }
 
--- how many bytes the request takes, as far as those at hand tell
+-- how many bytes the request takes: both counts and what they count
 unfoldable pub requestSize : List ℕ → ℕ
-requestSize s =
-    cond (leb (length s) 0) 1
-    (cond (ltb 64 (finishes s)) 1
-    (cond (leb (length s) (1 + finishes s)) (2 + finishes s)
-    (cond (ltb 64 (releases s)) (2 + finishes s)
-    (2 + finishes s + releases s))))
+requestSize s = 2 + finishes s + releases s
 
 abbrev pub refusedRequest : Refusal → Asked
 refusedRequest x = record { answer = Refused x; finished = noTasks; released = noTasks }

@@ -83,24 +83,22 @@ fn tasks_at(bytes: &[u8], at: usize, n: usize) -> Tasks
     Tasks { members, count: n }
 }
 
-// How many bytes a request takes, as far as those at hand tell.
-fn request_size(bytes: &[u8]) -> usize
-    ensures { λ r. ⌜ (r ≡ requestSize (now (bytes .entry))) × (r ≤ 130) ⌝ }
+// The byte at a place, or 0 past the end.
+fn byte_at(bytes: &[u8], i: usize) -> usize
+    ensures { λ r. ⌜ (r ≡ getD (now (bytes .entry)) i 0) × (r < 256) ⌝ }
 {
-    if bytes.len() <= 0 {
-        return 1;
+    if i < bytes.len() {
+        return wide(bytes[i]);
     }
-    let a = wide(bytes[0]);
-    if 64 < a {
-        return 1;
-    }
-    if bytes.len() <= 1 + a {
-        return 2 + a;
-    }
-    let b = wide(bytes[1 + a]);
-    if 64 < b {
-        return 2 + a;
-    }
+    0
+}
+
+// How many bytes a request takes.
+fn request_size(bytes: &[u8]) -> usize
+    ensures { λ r. ⌜ (r ≡ requestSize (now (bytes .entry))) × (r < 514) ⌝ }
+{
+    let a = byte_at(bytes, 0);
+    let b = byte_at(bytes, 1 + a);
     2 + a + b
 }
 
@@ -239,17 +237,6 @@ fn left(bytes: [u8; 160], count: usize, at: usize) -> [u8; 160]
     moved
 }
 
-// The place `n` bytes further on, as far as a number tells.
-fn further(place: usize, n: usize) -> usize
-    ensures { λ r. ⌜ r ≡ min (place + n) 18446744073709551615 ⌝ }
-{
-    if n <= usize::MAX - place {
-        place + n
-    } else {
-        usize::MAX
-    }
-}
-
 // A replay that begins at a place of the input.
 pub fn start(place: usize) -> Player
     ensures { λ r. ⌜ r ≡ begun place ⌝ }
@@ -286,7 +273,7 @@ pub fn play(player: Player, plan: Plan) -> Player
         state,
         bytes: left(bytes, count, at),
         count: count - at,
-        place: further(player.place, at),
+        place: reading::further(player.place, at),
         text,
     }
 }

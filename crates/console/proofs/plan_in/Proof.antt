@@ -1,5 +1,7 @@
-use lib.Seq.{length-take-le}
-use mathlib.Core.Path.{sym}
+use lib.Seq.{length-take-le, take-all}
+use mathlib.Core.Path.{sym, ap, _∙_}
+use native.Mathlib.Omega.{arith}
+use Rattle.reading.specs.Reading.{planRead}
 use borrow.Author.Needs.{needs}
 use Rattle.console.proofs.plan_in.Statement.{statement}
 use Rattle.console.proofs.plan_in.Tie as tie
@@ -11,7 +13,7 @@ read-plan-requires : tie.Need-read-plan-requires
 read-plan-requires c κs = search needs
 
 returns : tie.Need-returns
-returns c = search needs
+returns c = c .read-plan .ensures ∙ ap planRead (sym (take-all (c .before .before .before .args .n) (c .before .before .before .args .bytes .now) (omega arith)))
 
 slice-aggregate-read-plan : tie.Need-slice-aggregate-read-plan
 slice-aggregate-read-plan c = sym (length-take-le _ _ (search needs))
@@ -20,7 +22,7 @@ read-plan-requires-2 : tie.Need-read-plan-requires-2
 read-plan-requires-2 c κs = search needs
 
 returns-2 : tie.Need-returns-2
-returns-2 c = search needs
+returns-2 c = c .read-plan2 .ensures
 
 pub plan-in-spec : {M : Type 1} → statement M
 plan-in-spec =

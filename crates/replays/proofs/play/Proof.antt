@@ -7,7 +7,7 @@ use Rattle.replays.proofs.play.Tie as tie
 use Rattle.replays.proofs.play.Reads as reads
 use Rattle.replays.proofs.play.Lts as lts
 use Rattle.texts.proofs.Text.empty.Reads as empty-reads
-use Rattle.replays.proofs.further.Reads as further-reads
+use Rattle.reading.proofs.further.Reads as further-reads
 use Rattle.replays.proofs.left.Reads as left-reads
 use Rattle.replays.proofs.shoot.Reads as shoot-reads
 use Rattle.replays.proofs.smaller.Reads as smaller-reads
