@@ -69,7 +69,7 @@ fn of_runs(sum: u64, runs: [CoreRun; 16], cores: usize) -> u64 {
 pub extern "C" fn bench_ours_plan(table: &[u8]) -> u64 {
     let read = reading::read_table(table);
     let given = read.table;
-    let planned = layout::plan_table(given);
+    let planned = planner::plan_table(given);
     let answer = planned.answer;
     match answer {
         Answer::Accepted => of_plan(planned.plan),

@@ -258,7 +258,7 @@ fn main() {
     counts();
     cores();
     writing();
-    let planned = layout::plan_table(table(3, 10));
+    let planned = planner::plan_table(table(3, 10));
     reading_back(planned.plan);
     forces();
     let hand = by_hand(Kind::Whole);

@@ -16,19 +16,15 @@ use Rattle.tasks.specs.Tables.{noTask, checkedTable}
 use Rattle.tasks.specs.Tables as table
 use Rattle.tasks.specs.declared.Answer.the-variants.{Accepted}
 use Rattle.tasks.specs.declared.Table.{Table}
-use Rattle.shapes.proofs.Shaped.{whole-first}
-use Rattle.bounds.specs.Bound.{localDeadline}
 use Rattle.bounds.specs.Leaves.{Moderate}
 use Rattle.plans.specs.Pieces.{noPiece, taskOf, pieceOf, costs}
 use Rattle.plans.specs.declared.Piece.{Piece}
 use Rattle.plans.specs.declared.Plan.{Plan}
-use Rattle.layout.specs.Asked.{Alone}
 use Rattle.layout.specs.Layout.{start}
-use Rattle.layout.specs.Whole.{put, wholePiece, isClosed}
+use Rattle.layout.specs.Whole.{put, isClosed}
 use Rattle.layout.specs.declared.Draft.{Draft}
 use Rattle.layout.proofs.Laid.{Laid, laid-start, openCores}
-use Rattle.shapes.proofs.SamePlans.{costs-same}
-use Rattle.layout.proofs.Put.{put-length, put-old, put-new, put-past, put-each}
+use Rattle.layout.proofs.Put.{put-length, put-past, put-each}
 
 -- the draft while task i is laid out, with `need` of its cost still to be placed on core x or above
 pub record Drafted (i need x : ℕ) (d : Draft) : Type 0 where
@@ -109,29 +105,6 @@ module _ (i need x : ℕ) (d : Draft) (D : Drafted i need x d) where
       clean = λ j h. put-past z (d .plan) j (omega arith) ∙ D .clean j (omega arith);
       laid = rw add-one L;
     }
-
--- with task i added whole, each whole piece is its task's first, so its local deadline is its task's deadline
-pub ready-alone : (i : ℕ) (d : Draft) → LaidBefore i d → d .plan .placed < 128 → Alone (d .plan) i
-unfolding put localDeadline
-ready-alone i d D room x q h w = omega (arith, costs-same pc′ pc n (put-old z (d .plan)) (pc′ q .task .0) q (omega arith), none (ℕ-discrete q n))
-  where
-    n : ℕ
-    n = d .plan .placed
-
-    z : Piece
-    z = wholePiece (d .plan) i x
-
-    pc : ℕ → Piece
-    pc = pieceOf (d .plan)
-
-    pc′ : ℕ → Piece
-    pc′ = pieceOf (put z (d .plan))
-
-    none : Dec (q ≡ n) → costs pc (pc′ q .task .0) q ≡ 0
-    none (yes e) = rw (e, put-new z (d .plan) (omega (arith, D .long))) (omega (arith, D .laid .left))
-    none (no e) =
-        let k : pc′ q ≡ pc q = put-old z (d .plan) q (omega arith) in
-        rw k (whole-first pc n (D .laid .order) q (omega arith) (rw k at w))
 
 -- a list of one entry over and over reads as it everywhere
 replicate-at : {A : Type 0} (n j : ℕ) (a : A) → getD (replicate n a) j a ≡ a

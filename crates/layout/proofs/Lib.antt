@@ -8,13 +8,8 @@ pub mod Sharing
 pub mod Wholes
 pub mod Keeps
 pub mod Reached
-pub mod Allowed
-pub mod Putting
-pub mod Searching
-pub mod Trying
 pub mod Placing
 pub mod Shape
 pub mod Certified
 pub mod Refusal
 pub mod Turns
-pub mod Settled

@@ -1,4 +1,3 @@
-pub mod Asked
 pub mod Limit
 pub mod Whole
 pub mod Shared

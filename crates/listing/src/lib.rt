@@ -80,7 +80,7 @@ pub fn lister(read: ReadTable) -> Text
 {
     let answer = read.answer;
     match answer {
-        Answer::Accepted => planned(layout::plan_table(read.table)),
+        Answer::Accepted => planned(planner::plan_table(read.table)),
         Answer::Refused(refusal) => texts::refused(refusal),
     }
 }

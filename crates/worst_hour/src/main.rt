@@ -45,7 +45,7 @@ fn eight_cores() -> Table {
 }
 
 fn show(table: Table) {
-    let planned = layout::plan_table(table);
+    let planned = planner::plan_table(table);
     console::print(listing::planned(planned));
     let answer = planned.answer;
     if let Answer::Accepted = answer {

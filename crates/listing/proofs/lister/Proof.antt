@@ -4,7 +4,7 @@ use Rattle.listing.proofs.lister.Statement.{statement}
 use Rattle.listing.proofs.lister.Tie as tie
 use Rattle.listing.proofs.lister.Reads as reads
 use Rattle.listing.proofs.lister.Lts as lts
-use Rattle.layout.proofs.plan_table.Reads as plan-table-reads
+use Rattle.planner.proofs.plan_table.Reads as plan-table-reads
 use Rattle.listing.proofs.planned.Reads as planned-reads
 use Rattle.texts.proofs.refused.Reads as refused-reads
 

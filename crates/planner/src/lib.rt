@@ -1,0 +1,300 @@
+// The planner: a task table laid out over the cores of a board.
+ghost use mathlib.Core.Path.{_≡_};
+ghost use mathlib.Core.Bool.{not, _&&_};
+ghost use Prim.Native.Nat.{_≤_, _<_, min};
+ghost use lib.Dec.{eqb};
+ghost use Rattle.tasks.specs.Below.{all, first};
+ghost use Rattle.bounds.specs.Leaves.{Moderate};
+ghost use Rattle.plans.specs.Pieces.{taskOf};
+ghost use Rattle.shapes.specs.Shape.{isShare};
+ghost use Rattle.layout.specs.Layout as layouts;
+ghost use Rattle.layout.specs.Layout.{noPlan, start, layFirst, outcome};
+ghost use Rattle.layout.specs.Limit as limits;
+ghost use Rattle.tasks.specs.Tables.{checkedTable};
+ghost use Rattle.tasks.specs.declared.Answer.the-variants.{Accepted};
+ghost use Rattle.layout.specs.Shared.{sharePiece, shareFrom};
+ghost use Rattle.layout.specs.Whole as whole;
+ghost use Rattle.planner.specs.Asked.{Ready, OwnDeadlines, Alone, found};
+ghost use Rattle.layout.specs.Whole.{draft, keepsBound, takesWhole};
+use layout::Draft;
+use layout::Planned;
+use plans::Kind;
+use plans::Piece;
+use plans::Plan;
+use tasks::Answer;
+use tasks::CoreNo;
+use tasks::Refusal;
+use tasks::Table;
+use tasks::Task;
+use tasks::TaskNo;
+
+// What sharing a task out comes to: whether it is placed, and the draft then.
+struct Shared {
+    placed: bool,
+    plan: Plan,
+    closed: [bool; 16],
+}
+
+// The plan with one piece more.
+fn with_piece(z: Piece, plan: Plan) -> Plan
+    requires { ⌜ plan .placed < 128 ⌝ }
+    ensures { λ r. ⌜ r ≡ whole.put z plan ⌝ }
+{
+    let at = plan.placed;
+    let mut next = plan;
+    next.pieces[at] = z;
+    next.placed = at + 1;
+    next
+}
+
+// Is piece z whole and on core x?
+fn whole_on(z: Piece, x: usize) -> bool
+    ensures { λ r. ⌜ r ≡ not (isShare (z .kind)) && eqb (z .core .0) x ⌝ }
+{
+    let kind = z.kind;
+    match kind {
+        Kind::Whole => z.core.index() == x,
+        Kind::Share => false,
+    }
+}
+
+// Does every whole piece on core x keep its bound?
+fn all_keep(plan: Plan, x: usize) -> bool
+    requires { ⌜ Moderate plan × OwnDeadlines plan ⌝ }
+    ensures { λ r. ⌜ r ≡ all (plan .placed) (keepsBound plan x) ⌝ }
+{
+    let n = plan.placed;
+    for q in 0..n {
+        let b = plan.pieces[q];
+        if !whole_on(b, x) {
+            continue;
+        }
+        let i = b.task.index();
+        let d = plan.tasks[i].deadline;
+        let mut load: u32 = 0;
+        for j in 0..n {
+            let z = plan.pieces[j];
+            let k = z.task.index();
+            load += bounds::pressure(z, plan.tasks[k], b, d, d);
+        }
+        if d < b.cost + load {
+            return false;
+        }
+    }
+    true
+}
+
+// What piece q allows a share of a new task of period p.
+fn allowance(plan: Plan, p: u32, q: usize) -> u32
+    requires { ⌜ (0 < p) × (p ≤ 1000000) × (q < plan .placed) × Moderate plan ⌝ }
+    ensures { λ r. ⌜ (r ≡ limits.allowance plan p q) × (r ≤ 1000000) ⌝ }
+{
+    let b = bounds::bound_of(plan, q);
+    if b.deadline <= b.bound {
+        return 0;
+    }
+    (b.deadline - b.bound) / ((b.deadline + (p - 1)) / p)
+}
+
+// The lowest core that takes task i whole, or the number of cores.
+fn lowest_whole(plan: Plan, closed: [bool; 16], i: usize) -> usize
+    requires { ⌜ (plan .placed ≤ 96) × Ready plan i × Alone plan i ⌝ }
+    ensures { λ r. ⌜ r ≡ first (plan .cores) (takesWhole (draft plan closed) i) ⌝ }
+{
+    let m = plan.cores;
+    let at = plan.placed;
+    let cost = plan.tasks[i].cost;
+    let mut w = plan;
+    w.placed = at + 1;
+    for x in 0..m {
+        if closed[x] {
+            continue;
+        }
+        w.pieces[at] = Piece {
+            task: TaskNo(i as u8),
+            core: CoreNo(x as u8),
+            kind: Kind::Whole,
+            cost,
+        };
+        if all_keep(w, x) {
+            return x;
+        }
+    }
+    m
+}
+
+// The plan with a share of task i on core x.
+fn give(plan: Plan, i: usize, x: usize, size: u32) -> Plan
+    requires { ⌜ (plan .placed < 128) × (i < 64) × (x < 16) ⌝ }
+    ensures { λ r. ⌜ r ≡ whole.put (sharePiece i x size) plan ⌝ }
+{
+    with_piece(
+        Piece {
+            task: TaskNo(i as u8),
+            core: CoreNo(x as u8),
+            kind: Kind::Share,
+            cost: size,
+        },
+        plan,
+    )
+}
+
+fn lower(a: u32, b: u32) -> u32
+    ensures { λ r. ⌜ r ≡ min a b ⌝ }
+{
+    if a < b { a } else { b }
+}
+
+// Task i shared out over the open cores in rising order.
+fn share_out(plan: Plan, closed: [bool; 16], i: usize) -> Shared
+    requires { ⌜ (plan .placed ≤ 80) × Ready plan i ⌝ }
+    ensures { λ r. ⌜ found (r .placed) (draft (r .plan) (r .closed)) ≡ shareFrom (draft plan closed) i (taskOf plan i .cost) 0 (plan .cores) ⌝ }
+{
+    let m = plan.cores;
+    let p = plan.tasks[i].period;
+    let mut need = plan.tasks[i].cost;
+    let mut w = plan;
+    let mut shut = closed;
+    let mut placed = false;
+    'cores: for x in 0..m {
+        if shut[x] {
+            continue 'cores;
+        }
+        let n = w.placed;
+        let mut most: u32 = 1000000;
+        for q in 0..n {
+            let z = w.pieces[q];
+            if z.core.index() != x {
+                continue;
+            }
+            let allowed = allowance(w, p, q);
+            if allowed == 0 {
+                continue 'cores;
+            }
+            most = lower(most, allowed);
+        }
+        if need < most {
+            w = give(w, i, x, need);
+            placed = true;
+            break 'cores;
+        }
+        w = give(w, i, x, most);
+        shut[x] = true;
+        if most == need {
+            placed = true;
+            break 'cores;
+        }
+        need -= most;
+    }
+    Shared {
+        placed,
+        plan: w,
+        closed: shut,
+    }
+}
+
+// Task i placed: whole on the lowest core that takes it, otherwise shared out.
+fn place(plan: Plan, closed: [bool; 16], i: usize) -> Shared
+    requires { ⌜ (plan .placed ≤ 80) × Ready plan i × Alone plan i ⌝ }
+    ensures { λ r. ⌜ found (r .placed) (draft (r .plan) (r .closed)) ≡ layouts.place (draft plan closed) i ⌝ }
+{
+    let x = lowest_whole(plan, closed, i);
+    if x < plan.cores {
+        let z = Piece {
+            task: TaskNo(i as u8),
+            core: CoreNo(x as u8),
+            kind: Kind::Whole,
+            cost: plan.tasks[i].cost,
+        };
+        Shared {
+            placed: true,
+            plan: with_piece(z, plan),
+            closed,
+        }
+    } else {
+        share_out(plan, closed, i)
+    }
+}
+
+// A plan of zeros.
+fn no_plan() -> Plan
+    ensures { λ r. ⌜ r ≡ noPlan ⌝ }
+{
+    Plan {
+        cores: 0,
+        count: 0,
+        tasks: [Task {
+            cost: 0,
+            deadline: 0,
+            period: 0,
+        }; 64],
+        placed: 0,
+        pieces: [Piece {
+            task: TaskNo(0),
+            core: CoreNo(0),
+            kind: Kind::Whole,
+            cost: 0,
+        }; 128],
+    }
+}
+
+// The table's tasks with no piece yet; entries past the count are 0.
+fn begin(table: Table) -> Plan
+    requires { ⌜ table .count ≤ 64 ⌝ }
+    ensures { λ r. ⌜ r ≡ start table .plan ⌝ }
+{
+    let n = table.count;
+    let mut plan = no_plan();
+    plan.cores = table.cores;
+    plan.count = n;
+    let mut i = 0;
+    while i < n {
+        plan.tasks[i] = table.tasks[i];
+        i += 1;
+    }
+    plan
+}
+
+fn refused(r: Refusal) -> Planned
+    ensures { λ p. ⌜ p ≡ layouts.refused r ⌝ }
+{
+    Planned {
+        answer: Answer::Refused(r),
+        plan: no_plan(),
+    }
+}
+
+// The tasks of a good table placed in table order.
+fn lay_out(table: Table) -> Planned
+    requires { ⌜ checkedTable table ≡ Accepted ⌝ }
+    ensures { λ r. ⌜ r ≡ outcome (layFirst (start table) (table .count)) ⌝ }
+{
+    let n = table.count;
+    let mut plan = begin(table);
+    let mut closed = [false; 16];
+    let mut i = 0;
+    while i < n {
+        let next = place(plan, closed, i);
+        if !next.placed {
+            return refused(Refusal::NotPlaced(TaskNo(i as u8)));
+        }
+        plan = next.plan;
+        closed = next.closed;
+        i += 1;
+    }
+    Planned {
+        answer: Answer::Accepted,
+        plan,
+    }
+}
+
+// The plan of a table, or why there is none. Any record at all may be given.
+pub fn plan_table(table: Table) -> Planned
+    ensures { λ r. ⌜ r ≡ layouts.planned table ⌝ }
+{
+    let answer = tasks::check_table(table);
+    match answer {
+        Answer::Refused(r) => refused(r),
+        Answer::Accepted => lay_out(table),
+    }
+}
