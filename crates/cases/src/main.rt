@@ -248,7 +248,7 @@ fn ticks(plan: Plan) {
 // The bound asked from outside.
 fn bounds(plan: Plan) {
     say(b"the bound of a piece past the list: ");
-    if let Bounding::Refused(refusal) = bounds::ask_bound(plan, 2) {
+    if let Bounding::Refused(refusal) = asking::ask_bound(plan, 2) {
         console::print(texts::refused(refusal));
     }
 }

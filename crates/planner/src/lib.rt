@@ -89,7 +89,7 @@ fn allowance(plan: Plan, p: u32, q: usize) -> u32
     requires { ⌜ (0 < p) × (p ≤ 1000000) × (q < plan .placed) × Moderate plan ⌝ }
     ensures { λ r. ⌜ (r ≡ limits.allowance plan p q) × (r ≤ 1000000) ⌝ }
 {
-    let b = bounds::bound_of(plan, q);
+    let b = asking::bound_of(plan, q);
     if b.deadline <= b.bound {
         return 0;
     }

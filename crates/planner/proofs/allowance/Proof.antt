@@ -11,7 +11,7 @@ use Rattle.planner.proofs.allowance.Statement.{statement}
 use Rattle.planner.proofs.allowance.Tie as tie
 use Rattle.planner.proofs.allowance.Reads as reads
 use Rattle.planner.proofs.allowance.Lts as lts
-use Rattle.bounds.proofs.bound_of.Reads as bound-of-reads
+use Rattle.asking.proofs.bound_of.Reads as bound-of-reads
 
 bound-of-requires : tie.Need-bound-of-requires
 bound-of-requires c κs = search needs

@@ -2,18 +2,18 @@ use borrow.Author.Needs.{needs}
 use native.Mathlib.Omega.{arith}
 use Prim.Native.Nat.{ℕ, _+_, _≤_, _<_, _-_}
 use mathlib.Core.Path.{_≡_, sym, ap, _∙_}
 use Rattle.bounds.specs.Bound.{localDeadline, load, bound}
 use mathlib.Core.Bool.{cond}
 use Rattle.plans.specs.Interference.{interference}
 use Rattle.bounds.specs.Leaves.{Moderate}
 use Rattle.plans.specs.Pieces.{taskOf, pieceOf}
 use Rattle.plans.specs.Rank.{above}
 use Rattle.bounds.proofs.Sums.{load-none, load-turn, load-small}
-use Rattle.bounds.proofs.bound_of.Statement.{statement}
-use Rattle.bounds.proofs.bound_of.Tie as tie
+use Rattle.asking.proofs.bound_of.Statement.{statement}
+use Rattle.asking.proofs.bound_of.Tie as tie
 
 abbrev Inv-loop : tie.InvT-loop
 Inv-loop q plan b i d spent deadline n load₀ j₀ load j = (j ≤ n) × (n ≡ plan .placed) × (q < plan .placed) × Moderate plan × (b ≡ pieceOf plan q) × (d ≡ taskOf plan (pieceOf plan q .task .0) .deadline) × (deadline ≡ localDeadline (taskOf plan) (pieceOf plan) q) × (deadline ≤ 1000000) × (load ≡ Rattle.bounds.specs.Bound.load (taskOf plan) (pieceOf plan) j (pieceOf plan q) deadline)
 
 abbrev μ-loop : tie.MeasureT-loop
 μ-loop q plan b i d spent deadline n load₀ j₀ load j = n - j

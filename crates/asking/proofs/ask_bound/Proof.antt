@@ -1,9 +1,9 @@
 use mathlib.Core.Path.{sym, _∙_}
 use Rattle.shapes.proofs.InShape.{accepted-plan}
 use Rattle.bounds.proofs.Accepted.{plan-moderate, asked-refused, asked-past, asked-known}
 use borrow.Author.Needs.{needs}
-use Rattle.bounds.proofs.ask_bound.Statement.{statement}
-use Rattle.bounds.proofs.ask_bound.Tie as tie
+use Rattle.asking.proofs.ask_bound.Statement.{statement}
+use Rattle.asking.proofs.ask_bound.Tie as tie
 
 check-plan-requires : tie.Need-check-plan-requires
 check-plan-requires c κs = search needs
