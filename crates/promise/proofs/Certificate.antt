@@ -9,14 +9,14 @@ use Rattle.plans.specs.Pieces.{pieceOf, earlier}
 use Rattle.shapes.specs.Shape.{isLast, checkedPlan}
 use Rattle.plans.specs.declared.Plan.{Plan}
 use Rattle.dispatch.specs.Jobs.{jobOf}
-use Rattle.promise.specs.Certificate.{Certificate}
+use Rattle.schedules.specs.Certificate.{Certificate}
 use Rattle.promise.specs.Demand3.{reached}
-use Rattle.promise.specs.Model.{Model, Sound, active}
-use Rattle.promise.specs.Moments.{Moment, Reached}
+use Rattle.schedules.specs.Model.{Model, Sound, active}
+use Rattle.schedules.specs.Moments.{Moment, Reached}
 use Rattle.promise.specs.Requests.{Request}
 use Rattle.promise.specs.View.{stageOf, momentOf, modelOf}
 use Rattle.promise.proofs.Runs.{reach}
-use Rattle.promise.proofs.Safe.{in-time-last}
+use Rattle.schedules.proofs.Safe.{in-time-last}
 use Rattle.promise.proofs.Sound.{sound}
 
 -- in every moment that accepted ticks lead to, a job at its last piece is younger than its earlier costs and its limit

@@ -20,7 +20,7 @@ use Rattle.dispatch.specs.declared.Phase.{Phase}
 use Rattle.dispatch.specs.declared.Phase.the-variants.{Never, Active, Ended}
 use Rattle.dispatch.specs.declared.State.{State}
 use Rattle.promise.specs.Demand3.{OneCore, CoresRise}
-use Rattle.promise.specs.Model.{Stage, never, active, ended, older, onward, finish, run}
+use Rattle.schedules.specs.Model.{Stage, never, active, ended, older, onward, finish, run}
 use Rattle.promise.specs.Requests.{Request, asked, isAccepted, after, tally, namedOn, releases}
 use Rattle.promise.specs.View.{stageOf, modelOf}
 use Rattle.promise.proofs.Join.{stood, named-stands}

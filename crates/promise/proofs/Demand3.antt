@@ -16,7 +16,7 @@ use Rattle.plans.specs.declared.Plan.{Plan}
 use Rattle.layout.proofs.Certified.{planned-cores, planned-count, planned-tasks, planned-shape, planned-certified}
 use Rattle.layout.specs.Layout.{planned}
 use Rattle.dispatch.specs.Jobs.{freshState}
-use Rattle.promise.specs.Certificate.{Certificate, Timely}
+use Rattle.schedules.specs.Certificate.{Certificate, Timely}
 use Rattle.promise.specs.Demand3.{Demand3, PlanOf}
 use Rattle.promise.specs.Requests.{after}
 use Rattle.promise.specs.View.{modelOf}

@@ -27,9 +27,9 @@ use Rattle.dispatch.specs.declared.Runner.{Runner}
 use Rattle.dispatch.specs.declared.Runner.the-variants.{Idle, Runs}
 use Rattle.dispatch.specs.declared.State.{State}
 use Rattle.dispatch.specs.declared.Tasks.{Tasks}
-use Rattle.promise.specs.Model as model
-use Rattle.promise.specs.Model.{Stage, ended, at, May}
-use Rattle.promise.specs.Moments.{held, goes, goesAt, finished, released, ticked, tick, Accepted, Step}
+use Rattle.schedules.specs.Model as model
+use Rattle.schedules.specs.Model.{Stage, ended, at, May}
+use Rattle.schedules.specs.Moments.{held, goes, goesAt, finished, released, ticked, tick, Accepted, Step}
 use Rattle.promise.specs.View.{stageOf, ranLast, momentOf, modelOf}
 use Rattle.promise.proofs.Accepting.{Passed}
 use Rattle.promise.proofs.Choice.{Picked, Picks, picks-named, highest-picks}

@@ -24,7 +24,7 @@ use Rattle.dispatch.specs.declared.Phase.the-variants.{Never, Active, Ended}
 use Rattle.dispatch.specs.declared.Runner.the-variants.{Idle}
 use Rattle.dispatch.specs.declared.State.{State}
 use Rattle.dispatch.specs.declared.Tasks.{Tasks}
-use Rattle.promise.specs.Model as model
+use Rattle.schedules.specs.Model as model
 use Rattle.promise.specs.View.{stageOf, modelOf}
 use Rattle.promise.proofs.Sound.{first-piece}
 

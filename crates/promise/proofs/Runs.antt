@@ -27,18 +27,18 @@ use Rattle.dispatch.specs.declared.Phase.the-variants.{Never, Active, Ended}
 use Rattle.dispatch.specs.declared.State.{State}
 use Rattle.dispatch.specs.declared.Tasks.{Tasks}
 use Rattle.dispatch.specs.declared.Ticked.{Ticked}
-use Rattle.promise.specs.Certificate.{Certificate, Timely}
+use Rattle.schedules.specs.Certificate.{Certificate, Timely}
 use Rattle.promise.specs.Demand3.{reached, Due}
-use Rattle.promise.specs.Moments as moments
-use Rattle.promise.specs.Moments.{fresh, finished, released, goes, Reached, start, next}
+use Rattle.schedules.specs.Moments as moments
+use Rattle.schedules.specs.Moments.{fresh, finished, released, goes, Reached, start, next}
 use Rattle.promise.specs.Requests.{Request, asked, isAccepted, after, tally, namedOn, ticks, timesNamed, finishes}
 use Rattle.promise.specs.View.{stageOf, ranLast, momentOf, modelOf}
 use Rattle.promise.proofs.Accepting.{Passed, tick-says}
 use Rattle.promise.proofs.Join.{stages, named-goes, tick-step}
 use Rattle.promise.proofs.Rules.{finish-stage}
-use Rattle.promise.proofs.Safe.{inv-reached, in-time, never-late}
-use Rattle.promise.proofs.Stage.{Good}
-use Rattle.promise.proofs.Since.{one, Why, Since, since-tick, since-release}
+use Rattle.schedules.proofs.Safe.{inv-reached, in-time, never-late}
+use Rattle.schedules.proofs.Stage.{Good}
+use Rattle.schedules.proofs.Since.{one, Why, Since, since-tick, since-release}
 use Rattle.promise.proofs.Sound.{piece-fits, sound, within-cost, full-cost}
 
 -- ---- one request

@@ -12,7 +12,7 @@ use Rattle.plans.specs.Pieces.{taskOf, pieceOf, costs}
 use Rattle.shapes.specs.Shape.{isLast}
 use Rattle.plans.specs.declared.Plan.{Plan}
 use Rattle.dispatch.specs.Rules.{firstPiece}
-use Rattle.promise.specs.Model.{Sound}
+use Rattle.schedules.specs.Model.{Sound}
 use Rattle.promise.specs.View.{modelOf}
 
 module _ (p : Plan) (c : GoodPlan p) where

@@ -12,8 +12,8 @@ use Rattle.dispatch.specs.declared.Job.{Job}
 use Rattle.dispatch.specs.declared.Phase.{Phase}
 use Rattle.dispatch.specs.declared.Phase.the-variants.{Never, Active, Ended}
 use Rattle.dispatch.specs.declared.State.{State}
-use Rattle.promise.specs.Model.{Stage, never, active, ended, Model}
-use Rattle.promise.specs.Moments.{Moment}
+use Rattle.schedules.specs.Model.{Stage, never, active, ended, Model}
+use Rattle.schedules.specs.Moments.{Moment}
 
 -- where a job stands
 abbrev pub stageAs : Phase → (age piece ran : ℕ) → Stage

@@ -7,9 +7,9 @@ use native.Mathlib.Omega.{arith}
 use lib.Dec.{ltb}
 use borrow.Author.Tests.{ltb-false}
 use Rattle.tasks.proofs.Bools.{clash}
-use Rattle.promise.specs.Model.{Stage, never, active, ended, Model, Sound, older, onward, finish, release, run, May}
-use Rattle.promise.specs.Moments.{Moment, goes, goesAt, finished, released, ticked, tick, Accepted}
-use Rattle.promise.proofs.Stage.{Good, good-finish, good-release}
+use Rattle.schedules.specs.Model.{Stage, never, active, ended, Model, Sound, older, onward, finish, release, run, May}
+use Rattle.schedules.specs.Moments.{Moment, goes, goesAt, finished, released, ticked, tick, Accepted}
+use Rattle.schedules.proofs.Stage.{Good, good-finish, good-release}
 
 -- one for a test that passes
 abbrev pub one : Bool → ℕ

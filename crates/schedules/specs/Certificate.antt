@@ -4,7 +4,7 @@ use mathlib.Core.Bool.{true, false, cond}
 use Prim.Native.Nat.{ℕ, _+_, _≤_, _<_}
 use Rattle.tasks.specs.Below.{sum}
 use Rattle.plans.specs.Interference.{interference}
-use Rattle.promise.specs.Model.{Model}
+use Rattle.schedules.specs.Model.{Model}
 
 -- rank is a strict order; nothing ranks above a piece that is not its task's last;
 -- and each last piece's cost and the interference of every piece above it, in the length of its limit, are within the limit

@@ -3,7 +3,7 @@ use mathlib.Core.Path.{_≡_}
 use mathlib.Core.Bool.{Bool, true, false, not, _&&_, cond}
 use Prim.Native.Nat.{ℕ, _<_}
 use Rattle.tasks.specs.Below.{any}
-use Rattle.promise.specs.Model.{Stage, never, active, ended, Model, at, finish, release, run, May}
+use Rattle.schedules.specs.Model.{Stage, never, active, ended, Model, at, finish, release, run, May}
 
 -- where each task's job stands, and whether the task ran in the tick before
 pub record Moment : Type 0 where

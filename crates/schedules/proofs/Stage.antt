@@ -8,8 +8,8 @@ use native.Mathlib.Omega.{arith}
 use lib.Dec.{ltb, eqb}
 use borrow.Author.Tests.{lt-ltb, le-ltb, eq-eqb, ne-eqb, ltb-true, ltb-false}
 use Rattle.plans.specs.Interference.{interference}
-use Rattle.promise.specs.Model.{Stage, never, active, ended, Model, Sound, at, older, onward, finish, release, run, May}
-use Rattle.promise.proofs.Potential.{potential, potential-less, potential-quiet, potential-fresh, potential-none, Move, passes, comes, move-tick, move-quiet}
+use Rattle.schedules.specs.Model.{Stage, never, active, ended, Model, Sound, at, older, onward, finish, release, run, May}
+use Rattle.schedules.proofs.Potential.{potential, potential-less, potential-quiet, potential-fresh, potential-none, Move, passes, comes, move-tick, move-quiet}
 
 -- how long piece j runs in a tick in which its task runs or not
 unfoldable pub hit : ℕ → Bool → Stage → ℕ

@@ -9,8 +9,8 @@ use native.Mathlib.Omega.{arith}
 use lib.Dec.{ltb, eqb}
 use borrow.Author.Tests.{eq-eqb, ne-eqb, eqb-true, ltb-false}
 use Rattle.tasks.proofs.Bools.{clash}
-use Rattle.promise.specs.Model.{Stage, never, active, ended, Model, Sound, at, older, onward, run, release}
-use Rattle.promise.proofs.Stage.{Good}
+use Rattle.schedules.specs.Model.{Stage, never, active, ended, Model, Sound, at, older, onward, run, release}
+use Rattle.schedules.proofs.Stage.{Good}
 
 module _ (M : Model) (q : ℕ) where
   unfoldable pub need : Stage → ℕ

@@ -11,12 +11,12 @@ use Rattle.tasks.proofs.Counting.{count-fewer}
 use Rattle.tasks.proofs.Bools.{both, clash}
 use Rattle.tasks.specs.Below.{sum, count}
 use Rattle.plans.specs.Interference.{interference}
-use Rattle.promise.specs.Certificate.{Certificate, Timely}
-use Rattle.promise.specs.Model.{Stage, never, active, ended, Model, Sound, at, finish, release, run, May}
-use Rattle.promise.specs.Moments.{Moment, fresh, held, goes, goesAt, finished, released, ticked, tick, Accepted, Agree, Reached, start, next}
-use Rattle.promise.proofs.Room.{Room, room-full, room-less, room-tick, room-time}
-use Rattle.promise.proofs.Own.{need, gone, New, new-away, new-release, own-away, own-stop, own-run, need-pos}
-use Rattle.promise.proofs.Stage.{Good, Steady, hit, can, can-tick, can-quiet, can-never, can-finish, can-release, good-finish, good-release, good-run, Must}
+use Rattle.schedules.specs.Certificate.{Certificate, Timely}
+use Rattle.schedules.specs.Model.{Stage, never, active, ended, Model, Sound, at, finish, release, run, May}
+use Rattle.schedules.specs.Moments.{Moment, fresh, held, goes, goesAt, finished, released, ticked, tick, Accepted, Agree, Reached, start, next}
+use Rattle.schedules.proofs.Room.{Room, room-full, room-less, room-tick, room-time}
+use Rattle.schedules.proofs.Own.{need, gone, New, new-away, new-release, own-away, own-stop, own-run, need-pos}
+use Rattle.schedules.proofs.Stage.{Good, Steady, hit, can, can-tick, can-quiet, can-never, can-finish, can-release, good-finish, good-release, good-run, Must}
 
 cond-le : (b : Bool) {x y : ℕ} → (b ≡ true → x ≤ y) → cond b x 0 ≤ cond b y 0
 cond-le true h = h refl

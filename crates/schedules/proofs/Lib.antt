@@ -1,0 +1,6 @@
+pub mod Potential
+pub mod Room
+pub mod Stage
+pub mod Own
+pub mod Safe
+pub mod Since
