@@ -16,7 +16,8 @@ use Rattle.dispatch.specs.declared.Ticked.{Ticked}
 use Rattle.runs.specs.Allowed.{fullTick, stateAfter}
 use Rattle.runs.specs.declared.Watched.{Watched}
 use Rattle.texts.specs.Text.{textOf, bytesOf, ascii}
-use Rattle.texts.proofs.Whole.{whole, digits-few, row-few, rows-few, answer-few}
+use Rattle.texts.proofs.Whole.{whole, digits-few, row-few, rows-few}
+use Rattle.telling.proofs.Whole.{answer-few}
 use Rattle.lines.specs.Lines.{runnerText, gapText, runsText, tickedText, totalsText, runText, runnerProgramText, responseText, watchedText}
 
 runner-few : (r : Runner) → length (runnerText r) ≤ 20

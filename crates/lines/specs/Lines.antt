@@ -16,7 +16,7 @@ use Rattle.board.specs.Ran.{ranOf}
 use Rattle.board.specs.declared.Ran.{Ran}
 use Rattle.runs.specs.Allowed.{fullTick, stateAfter}
 use Rattle.runs.specs.declared.Watched.{Watched}
-use Rattle.texts.specs.Telling.{answerText}
+use Rattle.telling.specs.Telling.{answerText}
 use Rattle.texts.specs.Text.{ascii, decimal}
 
 -- the task on a core, or `-`

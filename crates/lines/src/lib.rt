@@ -67,7 +67,7 @@ pub fn ran(text: Text, cores: usize, ran: Ran) -> Text
     let on_cores = ran.runs;
     match answer {
         Answer::Accepted => runs(text, cores, on_cores),
-        Answer::Refused(refusal) => text.refusal(refusal),
+        Answer::Refused(refusal) => telling::refusal(text, refusal),
     }
 }
 
@@ -163,7 +163,7 @@ pub fn runner(read: ReadPlan) -> Text
     let answer = read.answer;
     match answer {
         Answer::Accepted => run(Text::empty(), read.plan, 20),
-        Answer::Refused(refusal) => texts::refused(refusal),
+        Answer::Refused(refusal) => telling::refused(refusal),
     }
 }
 

@@ -12,7 +12,8 @@ use Rattle.layout.specs.Layout.{planned}
 use Rattle.layout.specs.declared.Planned.{Planned}
 use Rattle.reading.specs.declared.ReadTable.{ReadTable}
 use Rattle.texts.specs.Text.{textOf, bytesOf, ascii}
-use Rattle.texts.proofs.Whole.{whole, digits-few, rows-few, answer-few}
+use Rattle.texts.proofs.Whole.{whole, digits-few, rows-few}
+use Rattle.telling.proofs.Whole.{answer-few}
 use Rattle.listing.specs.Listing.{headText, kindText, pieceText, listingText, plannedText, listerText}
 
 head-few : (m n : ℕ) → length (headText m n) ≤ 54

@@ -10,7 +10,7 @@ use Rattle.layout.specs.Layout.{planned}
 use Rattle.layout.specs.declared.Planned.{Planned}
 use Rattle.writing.specs.Fields.{row}
 use Rattle.reading.specs.declared.ReadTable.{ReadTable}
-use Rattle.texts.specs.Telling.{answerText}
+use Rattle.telling.specs.Telling.{answerText}
 use Rattle.texts.specs.Text.{ascii, decimal}
 
 -- `cores 2 tasks 3`

@@ -70,7 +70,7 @@ pub fn planned(planned: Planned) -> Text
     let answer = planned.answer;
     match answer {
         Answer::Accepted => listing(Text::empty(), planned.plan),
-        Answer::Refused(refusal) => texts::refused(refusal),
+        Answer::Refused(refusal) => telling::refused(refusal),
     }
 }
 
@@ -81,6 +81,6 @@ pub fn lister(read: ReadTable) -> Text
     let answer = read.answer;
     match answer {
         Answer::Accepted => planned(planner::plan_table(read.table)),
-        Answer::Refused(refusal) => texts::refused(refusal),
+        Answer::Refused(refusal) => telling::refused(refusal),
     }
 }

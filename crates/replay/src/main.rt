@@ -62,7 +62,7 @@ fn replay(plan: Plan, start: usize) {
     }
     let answer = replays::last(player);
     if let Answer::Refused(refusal) = answer {
-        console::print(texts::refused(refusal));
+        console::print(telling::refused(refusal));
     }
     console::print(lines::totals(player.state));
 }
@@ -88,13 +88,13 @@ fn main() {
     let length = wide(head[0]) * 256 + wide(head[1]);
     let is_whole = fill(&mut file, length);
     if !is_told | !is_whole {
-        console::print(texts::refused(Refusal::CutShort(Place(0))));
+        console::print(telling::refused(Refusal::CutShort(Place(0))));
         return;
     }
     let read = console::plan_in(&file, length);
     let answer = read.answer;
     match answer {
         Answer::Accepted => replay(read.plan, 2 + length),
-        Answer::Refused(refusal) => console::print(texts::refused(refusal)),
+        Answer::Refused(refusal) => console::print(telling::refused(refusal)),
     }
 }

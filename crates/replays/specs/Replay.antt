@@ -17,7 +17,7 @@ use Rattle.dispatch.specs.Tick.{tick}
 use Rattle.dispatch.specs.declared.State.{State}
 use Rattle.dispatch.specs.declared.Ticked.{Ticked}
 use Rattle.lines.specs.Lines.{tickedText, totalsText}
-use Rattle.texts.specs.Telling.{answerText, refusalText}
+use Rattle.telling.specs.Telling.{answerText, refusalText}
 use Rattle.texts.specs.Text.{noText, textOf}
 use Rattle.replays.specs.Requests.{requestSize, requestRead}
 use Rattle.replays.specs.declared.Asked.{Asked}

@@ -4,8 +4,6 @@ use Rattle.tasks.proofs.Settling.{Settles, settled}
 use Rattle.texts.proofs.Text.empty.Reads as empty
 use Rattle.texts.proofs.Text.words.Reads as words
 use Rattle.texts.proofs.Text.number.Reads as number
-use Rattle.texts.proofs.Text.refusal.Reads as refusal
-use Rattle.texts.proofs.refused.Reads as refused
 
 pub empty-settled : Settles (empty.Post tt)
 empty-settled x e r s p q = settled p q
@@ -15,9 +13,3 @@ words-settled κ x e r s p q = settled p q
 
 pub number-settled : Settles (number.Post tt)
 number-settled x e r s p q = settled p q
-
-pub refusal-settled : Settles (refusal.Post tt)
-refusal-settled x e r s p q = settled p q
-
-pub refused-settled : Settles (refused.Post tt)
-refused-settled x e r s p q = settled p q

@@ -1,4 +1,4 @@
--- A text with room holds what is put, and how long numbers, rows and refusals are: a refusal's line is held whole.
+-- A text with room holds what is put, and how long numbers and rows are.
 use mathlib.Core.Path.{_≡_, refl, sym, ap, _∙_}
 use mathlib.Core.Bool.{Bool, true, false, cond}
 use mathlib.Core.List.{List, [], _∷_, _++_, append-assoc, append-nil}
@@ -10,12 +10,7 @@ use lib.Dec.{ltb}
 use lib.ListN.{length, length-append, length-set, length-replicate}
 use lib.Seq.{take-suc-set}
 use borrow.Author.Tests.{lt-ltb}
-use Rattle.tasks.specs.Refusals.{Told, place, task, given, needed, nothing, number, tells}
-use Rattle.tasks.specs.declared.Answer.{Answer}
-use Rattle.tasks.specs.declared.Answer.the-variants.{Accepted, Refused}
-use Rattle.tasks.specs.declared.Refusal.{Refusal}
 use Rattle.writing.specs.Fields.{row}
-use Rattle.texts.specs.Telling.{toldText, refusalText, answerText}
 use Rattle.texts.specs.Text.{put, puts, textOf, bytesOf, noText, ascii, digits}
 use Rattle.texts.specs.declared.Text.{Text}
 
@@ -35,7 +30,7 @@ held (b ∷ bs) t e h =
 pub whole : (bs : List ℕ) → length bs ≤ 9216 → bytesOf (textOf bs) ≡ bs
 whole bs h = held bs noText (length-replicate {A = ℕ} 9216 0) (omega arith)
 
--- ---- how long numbers, rows and refusals are
+-- ---- how long numbers and rows are
 
 pub digits-few : (k n : ℕ) → length (digits k n) ≤ k
 unfolding digits
@@ -55,22 +50,3 @@ row-few (suc n) k f h = simp length-append (omega (arith, row-few n k f h, h n, 
 -- up to m lines
 pub rows-few : (n m k : ℕ) (f : ℕ → List ℕ) → ((i : ℕ) → length (f i) ≤ k) → length (row (min n m) f) ≤ m * k
 rows-few n m k f h = omega (arith, row-few (min n m) k f h, mul-le-mul-right {m = min n m} {n = m} k (omega arith))
-
-told-few : (x : Told) → length (toldText x) ≤ 27
-unfolding toldText ascii
-told-few (place p) = omega (arith, digits-few 20 p)
-told-few (task i) = omega (arith, digits-few 20 i)
-told-few (given n) = omega (arith, digits-few 20 n)
-told-few (needed n) = omega (arith, digits-few 20 n)
-told-few nothing = omega arith
-
-refusal-few : (x : Refusal) → length (refusalText x) ≤ 56
-unfolding refusalText ascii
-refusal-few x = simp length-append (omega (arith, digits-few 20 (number x), told-few (tells x)))
-
-pub answer-few : (a : Answer) (said : List ℕ) (k : ℕ) → 56 ≤ k → length said ≤ k → length (answerText a said) ≤ k
-answer-few (Refused x) said k h l = omega (arith, refusal-few x)
-answer-few Accepted said k h l = l
-
-pub refusal-whole : (x : Refusal) → bytesOf (textOf (refusalText x)) ≡ refusalText x
-refusal-whole x = whole _ (omega (arith, refusal-few x))

@@ -5,7 +5,7 @@ use Rattle.lines.proofs.runner.Reads as reads
 use Rattle.lines.proofs.runner.Lts as lts
 use Rattle.texts.proofs.Text.empty.Reads as empty-reads
 use Rattle.lines.proofs.run.Reads as run-reads
-use Rattle.texts.proofs.refused.Reads as refused-reads
+use Rattle.telling.proofs.refused.Reads as refused-reads
 
 enum-told : tie.Need-enum-told
 enum-told c = search needs

@@ -6,7 +6,7 @@ use Rattle.listing.proofs.lister.Reads as reads
 use Rattle.listing.proofs.lister.Lts as lts
 use Rattle.planner.proofs.plan_table.Reads as plan-table-reads
 use Rattle.listing.proofs.planned.Reads as planned-reads
-use Rattle.texts.proofs.refused.Reads as refused-reads
+use Rattle.telling.proofs.refused.Reads as refused-reads
 
 enum-told : tie.Need-enum-told
 enum-told c = search needs

@@ -5,7 +5,7 @@ use Rattle.listing.proofs.planned.Reads as reads
 use Rattle.listing.proofs.planned.Lts as lts
 use Rattle.texts.proofs.Text.empty.Reads as empty-reads
 use Rattle.listing.proofs.listing.Reads as listing-reads
-use Rattle.texts.proofs.refused.Reads as refused-reads
+use Rattle.telling.proofs.refused.Reads as refused-reads
 
 enum-told : tie.Need-enum-told
 enum-told c = search needs

@@ -4,7 +4,7 @@ use Rattle.replay.proofs.replay.Tie as tie
 use Rattle.replay.proofs.replay.Reads as reads
 use Rattle.replay.proofs.replay.Lts as lts
 use Rattle.console.proofs.print.Reads as print-reads
-use Rattle.texts.proofs.refused.Reads as refused-reads
+use Rattle.telling.proofs.refused.Reads as refused-reads
 use Rattle.lines.proofs.totals.Reads as totals-reads
 use Rattle.replay.proofs.feed_some.Reads as feed-some-reads
 use Rattle.replays.proofs.last.Reads as last-reads

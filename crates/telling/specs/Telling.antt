@@ -5,17 +5,7 @@ use Rattle.tasks.specs.Refusals.{Told, place, task, given, needed, nothing, num
 use Rattle.tasks.specs.declared.Answer.{Answer}
 use Rattle.tasks.specs.declared.Answer.the-variants.{Accepted, Refused}
 use Rattle.tasks.specs.declared.Refusal.{Refusal}
 use Rattle.texts.specs.Text.{ascii, decimal}
-use Rattle.texts.specs.declared.Said.{Said}
-use Rattle.texts.specs.declared.Said.the-variants.{Place, Task, Given, Needed, Nothing}
-
--- what the code says of a refusal, as what the refusal tells
-abbrev pub meant : Said → Told
-meant (Place p) = place p
-meant (Task i) = task i
-meant (Given n) = given n
-meant (Needed n) = needed n
-meant Nothing = nothing
 
 -- what a refusal tells
 unfoldable pub toldText : Told → List ℕ

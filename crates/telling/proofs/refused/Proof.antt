@@ -1,10 +1,10 @@
 use borrow.Author.Needs.{needs}
-use Rattle.texts.proofs.refused.Statement.{statement}
-use Rattle.texts.proofs.refused.Tie as tie
-use Rattle.texts.proofs.refused.Reads as reads
-use Rattle.texts.proofs.refused.Lts as lts
+use Rattle.telling.proofs.refused.Statement.{statement}
+use Rattle.telling.proofs.refused.Tie as tie
+use Rattle.telling.proofs.refused.Reads as reads
+use Rattle.telling.proofs.refused.Lts as lts
+use Rattle.telling.proofs.refusal.Reads as refusal-reads
 use Rattle.texts.proofs.Text.empty.Reads as empty-reads
-use Rattle.texts.proofs.Text.refusal.Reads as refusal-reads
 
 empty-requires : tie.Need-empty-requires
 empty-requires c κs = search needs
