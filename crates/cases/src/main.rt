@@ -134,7 +134,7 @@ fn reading_back(plan: Plan) {
     let written = writing::write_plan(plan, &mut file);
     say_written(written);
     if let Written::Length(length) = written {
-        console::print(lines::runner(console::plan_in(&file, length)));
+        console::print(running::runner(console::plan_in(&file, length)));
     }
 }
 
@@ -242,7 +242,7 @@ fn ticks(plan: Plan) {
     tick(plan, aged, none(), none());
     say(b"after 40 ticks at full rate: ");
     let seen = runs::watch(plan, 40);
-    console::print(lines::totals(seen.state));
+    console::print(lines::totals(Text::empty(), seen.state));
 }
 
 // The bound asked from outside.

@@ -1,4 +1,3 @@
 pub mod Gaps
 pub mod Whole
-pub mod Running
 pub mod Settled

@@ -7,6 +7,7 @@ use replays::Player;
 use tasks::Answer;
 use tasks::Place;
 use tasks::Refusal;
+use texts::Text;
 
 // A player after one more part of the input, and whether the input may go on.
 struct Fed {
@@ -64,7 +65,7 @@ fn replay(plan: Plan, start: usize) {
     if let Answer::Refused(refusal) = answer {
         console::print(telling::refused(refusal));
     }
-    console::print(lines::totals(player.state));
+    console::print(lines::totals(Text::empty(), player.state));
 }
 
 fn wide(x: u8) -> usize

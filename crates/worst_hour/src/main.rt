@@ -50,7 +50,7 @@ fn show(table: Table) {
     let answer = planned.answer;
     if let Answer::Accepted = answer {
         let plan = planned.plan;
-        console::print(lines::watched(plan, runs::watch(plan, 100000)));
+        console::print(responses::watched(plan, runs::watch(plan, 100000)));
     }
 }
 

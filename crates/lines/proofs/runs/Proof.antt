@@ -15,14 +15,14 @@ use Rattle.lines.proofs.runs.Reads as reads
 use Rattle.lines.proofs.runs.Lts as lts
 use Rattle.lines.proofs.gap.Reads as gap-reads
 use Rattle.lines.proofs.on_core.Reads as on-core-reads
-use Rattle.texts.proofs.Text.words.Reads as words-reads
 use Rattle.lines.proofs.smaller.Reads as smaller-reads
+use Rattle.texts.proofs.Text.words.Reads as words-reads
 
 abbrev Inv-loop : tie.InvT-loop
-Inv-loop cores runs most t₀ x₀ t10 t x = (x ≤ most) × (most ≤ 16) × (t ≡ puts t₀ (row x (λ y. gapText y ++ runnerText (getD runs y noRun .runner))))
+Inv-loop cores ran most t₀ x₀ t8 t x = (x ≤ most) × (most ≤ 16) × (t ≡ puts t₀ (row x (λ y. gapText y ++ runnerText (getD (ran .runs) y noRun .runner))))
 
 abbrev μ-loop : tie.MeasureT-loop
-μ-loop cores runs most t₀ x₀ t10 t x = most - x
+μ-loop cores ran most t₀ x₀ t8 t x = most - x
 
 smaller-requires : tie.Need-smaller-requires Inv-loop μ-loop
 smaller-requires c κs = search needs
@@ -31,14 +31,14 @@ loop-holds : tie.Need-loop-holds Inv-loop μ-loop
 unfolding row puts
 loop-holds c = (search needs, omega (arith, c .smaller .ensures), refl)
 
-mul-run : tie.Need-mul-run Inv-loop μ-loop
-mul-run c = search needs
-
-array-copy-out-run : tie.Need-array-copy-out-run Inv-loop μ-loop
-array-copy-out-run c = search needs
-
 gap-requires : tie.Need-gap-requires Inv-loop μ-loop
 gap-requires c κs = search needs
+
+mul-on-core : tie.Need-mul-on-core Inv-loop μ-loop
+mul-on-core c = search needs
+
+element-copy-out-on-core : tie.Need-element-copy-out-on-core Inv-loop μ-loop
+element-copy-out-on-core c = search needs
 
 on-core-requires : tie.Need-on-core-requires Inv-loop μ-loop
 on-core-requires c κs = search needs
@@ -50,7 +50,7 @@ loop-less : tie.Need-loop-less Inv-loop μ-loop
 loop-less c = search needs
 
 loop-again : tie.Need-loop-again Inv-loop μ-loop
-loop-again c = (search needs, search needs, row-turn _ _ _ _ _ (c .before .before .before .before .loop .inv .2) (rw (puts-parts, ← c .before .gap .ensures) (c .on-core .ensures)))
+loop-again c = (search needs, search needs, row-turn _ _ _ _ _ (c .before .before .before .before .loop .inv .2) (rw (puts-parts, ← c .before .before .gap .ensures) (c .on-core .ensures)))
 
 slice-aggregate-words : tie.Need-slice-aggregate-words Inv-loop μ-loop
 slice-aggregate-words c = search needs
@@ -59,7 +59,7 @@ words-requires : tie.Need-words-requires Inv-loop μ-loop
 words-requires c κs = search needs
 
 returns : tie.Need-returns Inv-loop μ-loop
-unfolding runsText ascii puts
+unfolding runsText ascii
 returns c = let e : c .before .before .before .loop .x ≡ c .before .before .before .before .smaller .result = omega arith in simp (puts-parts, c .words .ensures, c .before .before .before .loop .inv .2, e, c .before .before .before .before .smaller .ensures)
 
 pub runs-spec : {M : Type 1} → statement M
@@ -70,9 +70,9 @@ runs-spec =
     μ-loop
     smaller-requires
     loop-holds
-    mul-run
-    array-copy-out-run
     gap-requires
+    mul-on-core
+    element-copy-out-on-core
     on-core-requires
     add-x
     loop-less

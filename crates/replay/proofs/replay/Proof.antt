@@ -4,6 +4,7 @@ use Rattle.replay.proofs.replay.Tie as tie
 use Rattle.replay.proofs.replay.Reads as reads
 use Rattle.replay.proofs.replay.Lts as lts
 use Rattle.console.proofs.print.Reads as print-reads
+use Rattle.texts.proofs.Text.empty.Reads as empty-reads
 use Rattle.telling.proofs.refused.Reads as refused-reads
 use Rattle.lines.proofs.totals.Reads as totals-reads
 use Rattle.replay.proofs.feed_some.Reads as feed-some-reads
@@ -56,6 +57,9 @@ print-requires-2 c κs = search needs
 enum-told : tie.Need-enum-told Inv-loop μ-loop
 enum-told c = search needs
 
+empty-requires : tie.Need-empty-requires Inv-loop μ-loop
+empty-requires c κs = search needs
+
 totals-requires : tie.Need-totals-requires Inv-loop μ-loop
 totals-requires c κs = search needs
 
@@ -84,6 +88,7 @@ replay-spec =
     refused-requires
     print-requires-2
     enum-told
+    empty-requires
     totals-requires
     print-requires-3
     returns)

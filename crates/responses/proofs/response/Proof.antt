@@ -1,11 +1,11 @@
-use Rattle.lines.specs.Lines.{responseText}
+use Rattle.responses.specs.Responses.{responseText}
 use Rattle.texts.specs.Text.{ascii, puts}
 use Rattle.texts.proofs.Putting.{puts-parts}
 use borrow.Author.Needs.{needs}
-use Rattle.lines.proofs.response.Statement.{statement}
-use Rattle.lines.proofs.response.Tie as tie
-use Rattle.lines.proofs.response.Reads as reads
-use Rattle.lines.proofs.response.Lts as lts
+use Rattle.responses.proofs.response.Statement.{statement}
+use Rattle.responses.proofs.response.Tie as tie
+use Rattle.responses.proofs.response.Reads as reads
+use Rattle.responses.proofs.response.Lts as lts
 use Rattle.texts.proofs.Text.number.Reads as number-reads
 use Rattle.texts.proofs.Text.words.Reads as words-reads
 

@@ -9,8 +9,8 @@ use Rattle.board.specs.Kept.{keptFor}
 use Rattle.writing.specs.Fields.{row}
 use Rattle.runs.specs.Allowed.{fullTick, stateAfter}
 use Rattle.runs.specs.Watching.{noneFinished, allReleased}
-use Rattle.lines.specs.Lines.{tickedText, totalsText, runText}
-use Rattle.lines.specs.Running.{withLine, ranFrom}
+use Rattle.lines.specs.Lines.{tickedText, totalsText}
+use Rattle.running.specs.Running.{runText, withLine, ranFrom}
 use Rattle.texts.specs.Text.{puts}
 use Rattle.texts.specs.declared.Text.{Text}
 use Rattle.texts.proofs.Putting.{puts-parts}

@@ -1,6 +1,6 @@
 use borrow.Author.Needs.{needs}
 use Rattle.plans.specs.Pieces.{taskOf}
-use Rattle.lines.specs.Lines.{responseText, watchedText}
+use Rattle.responses.specs.Responses.{responseText, watchedText}
 use Rattle.texts.specs.Text.{puts}
 use lib.ListN.{getD}
 use Rattle.texts.proofs.Putting.{puts-parts, row-turn}
@@ -8,19 +8,23 @@ use Rattle.writing.specs.Fields.{row}
 use Prim.Native.Nat.{_≤_, _-_}
 use native.Mathlib.Omega.{arith}
 use mathlib.Core.Path.{_≡_, refl}
-use Rattle.lines.proofs.watched.Statement.{statement}
-use Rattle.lines.proofs.watched.Tie as tie
-use Rattle.lines.proofs.watched.Reads as reads
-use Rattle.lines.proofs.watched.Lts as lts
-use Rattle.lines.proofs.response.Reads as response-reads
-use Rattle.lines.proofs.smaller.Reads as smaller-reads
+use Rattle.responses.proofs.watched.Statement.{statement}
+use Rattle.responses.proofs.watched.Tie as tie
+use Rattle.responses.proofs.watched.Reads as reads
+use Rattle.responses.proofs.watched.Lts as lts
+use Rattle.texts.proofs.Text.empty.Reads as empty-reads
+use Rattle.responses.proofs.response.Reads as response-reads
+use Rattle.responses.proofs.smaller.Reads as smaller-reads
 use Rattle.lines.proofs.totals.Reads as totals-reads
 
 abbrev Inv-loop : tie.InvT-loop
 Inv-loop plan watched t₀ most i₀ t i = (i ≤ most) × (most ≤ 64) × (t ≡ puts t₀ (row i (λ k. responseText k (getD (watched .longest) k 0) (taskOf plan k .deadline))))
 
 abbrev μ-loop : tie.MeasureT-loop
 μ-loop plan watched t₀ most i₀ t i = most - i
+
+empty-requires : tie.Need-empty-requires Inv-loop μ-loop
+empty-requires c κs = search needs
 
 totals-requires : tie.Need-totals-requires Inv-loop μ-loop
 totals-requires c κs = search needs
@@ -58,7 +62,7 @@ loop-again c = (search needs, search needs, row-turn _ _ _ _ _ (c .before .befor
 
 returns : tie.Need-returns Inv-loop μ-loop
 unfolding watchedText
-returns c = let e : c .before .loop .i ≡ c .before .before .smaller .result = omega arith in simp (puts-parts, c .before .loop .inv .2, e, c .before .before .smaller .ensures, c .before .before .before .totals .ensures)
+returns c = let e : c .before .loop .i ≡ c .before .before .smaller .result = omega arith in simp (puts-parts, c .before .loop .inv .2, e, c .before .before .smaller .ensures, c .before .before .before .totals .ensures, c .before .before .before .before .before .empty .ensures)
 
 pub watched-spec : {M : Type 1} → statement M
 watched-spec =
@@ -66,6 +70,7 @@ watched-spec =
     (tie.spec
     Inv-loop
     μ-loop
+    empty-requires
     totals-requires
     smaller-requires
     loop-holds
