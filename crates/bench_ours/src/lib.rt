@@ -2,9 +2,11 @@
 ghost use Prim.Native.Nat.{_≤_};
 use dispatch::CoreRun;
 use dispatch::Runner;
+use dispatch::Tasks;
 use plans::Kind;
 use plans::Plan;
 use tasks::Answer;
+use tasks::TaskNo;
 
 // One more value in a checksum: sum * 31 + value, which wraps.
 fn mix(sum: u64, value: u64) -> u64 {
@@ -82,10 +84,14 @@ pub extern "C" fn bench_ours_plan(table: &[u8]) -> u64 {
 pub extern "C" fn bench_ours_ticks(plan: &[u8], count: u32) -> u64 {
     let read = reading::read_plan(plan);
     let plan = read.plan;
+    let none = Tasks {
+        members: [TaskNo(0); 64],
+        count: 0,
+    };
     let mut state = dispatch::fresh();
     let mut sum: u64 = 0;
     for _ in 0..count {
-        let ticked = runs::full_tick(plan, state);
+        let ticked = dispatch::tick(plan, state, none, runs::all_allowed(plan, state));
         let answer = ticked.answer;
         match answer {
             Answer::Accepted => {}

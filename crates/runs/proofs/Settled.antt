@@ -1,14 +1,10 @@
 -- Each public contract settles its result.
 use Rattle.tasks.proofs.Settling.{Settles, settled}
 use Rattle.runs.proofs.all_allowed.Reads as all-allowed
-use Rattle.runs.proofs.full_tick.Reads as full-tick
 use Rattle.runs.proofs.watch.Reads as watch
 
 pub all-allowed-settled : Settles (all-allowed.Post tt)
 all-allowed-settled x e r s p q = settled p q
-
-pub full-tick-settled : Settles (full-tick.Post tt)
-full-tick-settled x e r s p q = settled p q
 
 pub watch-settled : Settles (watch.Post tt)
 watch-settled x e r s p q = settled p q

@@ -4,7 +4,7 @@ ghost use mathlib.Core.Bool.{true, false, cond};
 ghost use Prim.Native.Nat.{_<_, min, max};
 ghost use lib.Dec.{eqb};
 ghost use Rattle.dispatch.specs.Jobs.{byPhase, names};
-ghost use Rattle.runs.specs.Allowed.{noTasks, withTask, allowedSet, fullTick};
+ghost use Rattle.runs.specs.Allowed.{noTasks, withTask, allowedSet};
 ghost use Rattle.runs.specs.Watched.{ranIn, watched};
 ghost use Rattle.runs.specs.Watching.{saw, watchedAt, watchedFrom};
 use board::Ran;
@@ -14,7 +14,6 @@ use dispatch::Phase;
 use dispatch::Runner;
 use dispatch::State;
 use dispatch::Tasks;
-use dispatch::Ticked;
 use plans::Plan;
 use tasks::Task;
 use tasks::TaskNo;
@@ -34,12 +33,6 @@ fn smaller(a: usize, b: usize) -> usize
     ensures { λ r. ⌜ r ≡ min a b ⌝ }
 {
     if a < b { a } else { b }
-}
-
-fn larger(a: u32, b: u32) -> u32
-    ensures { λ r. ⌜ r ≡ max a b ⌝ }
-{
-    if a < b { b } else { a }
 }
 
 fn no_tasks() -> Tasks
@@ -92,13 +85,6 @@ pub fn all_allowed(plan: Plan, state: State) -> Tasks
     set
 }
 
-// A tick in which every task is released that may be, and none is finished.
-pub fn full_tick(plan: Plan, state: State) -> Ticked
-    ensures { λ r. ⌜ r ≡ fullTick plan state ⌝ }
-{
-    dispatch::tick(plan, state, no_tasks(), all_allowed(plan, state))
-}
-
 // Is it this task that runs?
 fn runs_here(i: usize, run: CoreRun) -> bool
     ensures { λ r. ⌜ r ≡ names i (run .runner) ⌝ }
@@ -124,11 +110,15 @@ fn ran_in(cores: usize, runs: [CoreRun; 16], i: usize) -> bool
     ran
 }
 
-// A job's age if it ran, otherwise 0.
-fn age_if(ran: bool, job: Job) -> u32
-    ensures { λ r. ⌜ r ≡ cond ran (job .age) 0 ⌝ }
+// The longest response of a task so far: its job's age if it ran and that is longer.
+fn longer(longest: u32, ran: bool, job: Job) -> u32
+    ensures { λ r. ⌜ r ≡ max longest (cond ran (job .age) 0) ⌝ }
 {
-    if ran { job.age } else { 0 }
+    if ran & (longest < job.age) {
+        job.age
+    } else {
+        longest
+    }
 }
 
 // No task is finished.
@@ -154,8 +144,7 @@ fn see(seen: Seen, plan: Plan, ran: Ran, state: State) -> Seen
     let mut longest = [0u32; 64];
     let mut i = 0;
     while i < count {
-        let age = age_if(ran_in(plan.cores, runs, i), state.jobs[i]);
-        longest[i] = larger(seen.longest[i], age);
+        longest[i] = longer(seen.longest[i], ran_in(plan.cores, runs, i), state.jobs[i]);
         i += 1;
     }
     Seen { longest }

@@ -7,14 +7,15 @@ use Rattle.bench_ours.proofs.bench_ours_ticks.Lts as lts
 use Rattle.bench_ours.proofs.mix.Reads as mix-reads
 use Rattle.bench_ours.proofs.of_runs.Reads as of-runs-reads
 use Rattle.dispatch.proofs.fresh.Reads as fresh-reads
+use Rattle.dispatch.proofs.tick.Reads as tick-reads
 use Rattle.reading.proofs.read_plan.Reads as read-plan-reads
-use Rattle.runs.proofs.full_tick.Reads as full-tick-reads
+use Rattle.runs.proofs.all_allowed.Reads as all-allowed-reads
 
 abbrev Inv-loop : tie.InvT-loop
-Inv-loop plan count plan' state₀ sum₀ counter₀ state sum counter = counter ≤ count
+Inv-loop plan count plan' none state₀ sum₀ counter₀ state sum counter = counter ≤ count
 
 abbrev μ-loop : tie.MeasureT-loop
-μ-loop plan count plan' state₀ sum₀ counter₀ state sum counter = count - counter
+μ-loop plan count plan' none state₀ sum₀ counter₀ state sum counter = count - counter
 
 read-plan-requires : tie.Need-read-plan-requires Inv-loop μ-loop
 read-plan-requires c κs = search needs
@@ -25,8 +26,11 @@ fresh-requires c κs = search needs
 loop-holds : tie.Need-loop-holds Inv-loop μ-loop
 loop-holds c = search needs
 
-full-tick-requires : tie.Need-full-tick-requires Inv-loop μ-loop
-full-tick-requires c κs = search needs
+all-allowed-requires : tie.Need-all-allowed-requires Inv-loop μ-loop
+all-allowed-requires c κs = search needs
+
+tick-requires : tie.Need-tick-requires Inv-loop μ-loop
+tick-requires c κs = search needs
 
 enum-told : tie.Need-enum-told Inv-loop μ-loop
 enum-told c = search needs
@@ -73,7 +77,8 @@ bench-ours-ticks-spec =
     read-plan-requires
     fresh-requires
     loop-holds
-    full-tick-requires
+    all-allowed-requires
+    tick-requires
     enum-told
     enum-told-2
     returns

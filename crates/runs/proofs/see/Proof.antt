@@ -22,26 +22,23 @@ smaller-requires c κs = search needs
 loop-holds : tie.Need-loop-holds Inv-loop μ-loop
 loop-holds c = (search needs, omega (arith, c .smaller .ensures), padded-start 64 0 _)
 
+mul-longer : tie.Need-mul-longer Inv-loop μ-loop
+mul-longer c = search needs
+
+element-copy-out-longer : tie.Need-element-copy-out-longer Inv-loop μ-loop
+element-copy-out-longer c = search needs
+
 ran-in-requires : tie.Need-ran-in-requires Inv-loop μ-loop
 ran-in-requires c κs = search needs
 
-mul-age-if : tie.Need-mul-age-if Inv-loop μ-loop
-mul-age-if c = search needs
+mul-longer-2 : tie.Need-mul-longer-2 Inv-loop μ-loop
+mul-longer-2 c = search needs
 
-element-copy-out-age-if : tie.Need-element-copy-out-age-if Inv-loop μ-loop
-element-copy-out-age-if c = search needs
+element-copy-out-longer-2 : tie.Need-element-copy-out-longer-2 Inv-loop μ-loop
+element-copy-out-longer-2 c = search needs
 
-age-if-requires : tie.Need-age-if-requires Inv-loop μ-loop
-age-if-requires c κs = search needs
-
-mul-larger : tie.Need-mul-larger Inv-loop μ-loop
-mul-larger c = search needs
-
-element-copy-out-larger : tie.Need-element-copy-out-larger Inv-loop μ-loop
-element-copy-out-larger c = search needs
-
-larger-requires : tie.Need-larger-requires Inv-loop μ-loop
-larger-requires c κs = search needs
+longer-requires : tie.Need-longer-requires Inv-loop μ-loop
+longer-requires c κs = search needs
 
 mul-longest : tie.Need-mul-longest Inv-loop μ-loop
 mul-longest c = search needs
@@ -56,7 +53,7 @@ loop-less : tie.Need-loop-less Inv-loop μ-loop
 loop-less c = search needs
 
 loop-again : tie.Need-loop-again Inv-loop μ-loop
-loop-again c = (search needs, search needs, padded-turn 64 0 _ _ _ _ (omega arith) (c .before .before .before .before .before .before .loop .inv .2) (rw (c .larger .ensures, c .before .before .age-if .ensures, c .before .before .before .before .ran-in .ensures)))
+loop-again c = (search needs, search needs, padded-turn 64 0 _ _ _ _ (omega arith) (c .before .before .before .before .before .loop .inv .2) (rw (c .longer .ensures, c .before .before .ran-in .ensures)))
 
 returns : tie.Need-returns Inv-loop μ-loop
 returns c = let e : c .before .loop .i ≡ c .before .before .smaller .result = omega arith in simp (c .before .loop .inv .2, e, c .before .before .smaller .ensures)
@@ -69,13 +66,12 @@ see-spec =
     μ-loop
     smaller-requires
     loop-holds
+    mul-longer
+    element-copy-out-longer
     ran-in-requires
-    mul-age-if
-    element-copy-out-age-if
-    age-if-requires
-    mul-larger
-    element-copy-out-larger
-    larger-requires
+    mul-longer-2
+    element-copy-out-longer-2
+    longer-requires
     mul-longest
     array-write-longest
     add-i
