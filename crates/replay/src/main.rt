@@ -24,10 +24,8 @@ fn read_some(bytes: &mut [u8]) -> usize
 }
 
 // Reads one part of the input, as far as the player's bytes have room.
-fn feed_some(player: Player) -> Fed {
-    let state = player.state;
+fn feed_some(mut player: Player) -> Fed {
     let mut bytes = player.bytes;
-    let text = player.text;
     let held = player.count;
     if 160 <= held {
         return Fed {
@@ -36,14 +34,10 @@ fn feed_some(player: Player) -> Fed {
         };
     }
     let n = read_some(&mut bytes[held..]);
+    player.bytes = bytes;
+    player.count = held + n;
     Fed {
-        player: Player {
-            state,
-            bytes,
-            count: held + n,
-            place: player.place,
-            text,
-        },
+        player,
         more: n > 0,
     }
 }

@@ -10,6 +10,7 @@ use lib.ListN.{length, getD, take, drop, length-take, length-drop, drop-of-lengt
 use lib.Seq.{drop-drop, ext-getD, getD-take, getD-drop}
 use Rattle.tasks.specs.Below.{padded}
 use Rattle.tasks.proofs.Padded.{padded-same}
+use Rattle.tasks.specs.declared.Answer.{Answer}
 use Rattle.tasks.specs.declared.Answer.the-variants.{Accepted, Refused}
 use Rattle.tasks.specs.declared.Refusal.{Refusal}
 use Rattle.plans.specs.declared.Plan.{Plan}
@@ -21,10 +22,9 @@ use Rattle.texts.specs.declared.Text.{Text}
 use Rattle.texts.proofs.Putting.{puts-parts}
 use Rattle.dispatch.specs.declared.State.{State}
 use Rattle.reading.specs.Reading.{further}
-use Rattle.replays.specs.Requests.{requestSize, requestRead}
+use Rattle.replays.specs.Requests.{requestSize, requestAnswer}
 use Rattle.replays.specs.Replay.{placeAt, tickAsked, Standing, next, played, wholes, atHand, standing, playedOn, lastAnswer}
-use Rattle.replays.specs.Turns.{endOf, beginOf, handed, askedOf, finishesOf, releasesOf, shownOf, shotOf, shotAfter}
-use Rattle.replays.specs.declared.Asked.{Asked}
+use Rattle.replays.specs.Turns.{endOf, beginOf, handed, finishesOf, releasesOf, shownOf, shotOf, shotAfter}
 use Rattle.replays.specs.declared.Player.{Player}
 use Rattle.replays.specs.declared.Reel.{Reel}
 use Rattle.replays.specs.declared.Shot.{Shot}
@@ -47,11 +47,11 @@ handed-is x e b he hb = part-is b e (x .bytes) (omega arith) ∙ rw (hb, he)
 
 -- ---- how many requests are whole
 
-pub wholes-none : (k : ℕ) (bs : List ℕ) (x : Refusal) → requestRead bs (placeAt 0) .answer ≡ Refused x → wholes (suc k) bs ≡ 0
+pub wholes-none : (k : ℕ) (bs : List ℕ) (x : Refusal) → requestAnswer bs (placeAt 0) ≡ Refused x → wholes (suc k) bs ≡ 0
 unfolding wholes
 wholes-none k bs x e = rw e
 
-pub wholes-more : (k : ℕ) (bs : List ℕ) → requestRead bs (placeAt 0) .answer ≡ Accepted → wholes (suc k) bs ≡ suc (wholes k (drop (requestSize bs) bs))
+pub wholes-more : (k : ℕ) (bs : List ℕ) → requestAnswer bs (placeAt 0) ≡ Accepted → wholes (suc k) bs ≡ suc (wholes k (drop (requestSize bs) bs))
 unfolding wholes
 wholes-more k bs e = rw e
 
@@ -74,13 +74,13 @@ counted-end bs at n c h =
     let none : wholes (80 - n) (drop at bs) ≡ 0 = ap (λ (k : ℕ). wholes k (drop at bs)) e ∙ wholes-zero (drop at bs) in
     omega (arith, c .still, none)
 
-pub counted-stop : (bs : List ℕ) (at n : ℕ) (x : Refusal) → Counted bs at n → n < 80 → requestRead (drop at bs) (placeAt 0) .answer ≡ Refused x → n ≡ wholes 80 bs
+pub counted-stop : (bs : List ℕ) (at n : ℕ) (x : Refusal) → Counted bs at n → n < 80 → requestAnswer (drop at bs) (placeAt 0) ≡ Refused x → n ≡ wholes 80 bs
 counted-stop bs at n x c h e =
     let k : 80 - n ≡ suc (79 - n) = omega arith in
     let none : wholes (80 - n) (drop at bs) ≡ 0 = ap (λ (k : ℕ). wholes k (drop at bs)) k ∙ wholes-none (79 - n) (drop at bs) x e in
     omega (arith, c .still, none)
 
-pub counted-turn : (bs : List ℕ) (at n : ℕ) → Counted bs at n → n < 80 → requestRead (drop at bs) (placeAt 0) .answer ≡ Accepted → Counted bs (at + requestSize (drop at bs)) (n + 1)
+pub counted-turn : (bs : List ℕ) (at n : ℕ) → Counted bs at n → n < 80 → requestAnswer (drop at bs) (placeAt 0) ≡ Accepted → Counted bs (at + requestSize (drop at bs)) (n + 1)
 counted-turn bs at n c h e =
     let g : Good (drop at bs) = accepted-good (drop at bs) (placeAt 0) e in
     let k : 80 - n ≡ suc (79 - n) = omega arith in
@@ -94,14 +94,14 @@ counted-turn bs at n c h e =
     }
 
 -- the same for the request that the code reads
-module _ (bytes : List ℕ) (count at n : ℕ) (a : Asked) (c : Counted (take count bytes) at n) (within : at ≤ count) (few : n < 80) (read : a ≡ requestRead (take (count - at) (drop at bytes)) (placeAt 0)) where
-  answered : requestRead (drop at (take count bytes)) (placeAt 0) .answer ≡ a .answer
+module _ (bytes : List ℕ) (count at n : ℕ) (a : Answer) (c : Counted (take count bytes) at n) (within : at ≤ count) (few : n < 80) (read : a ≡ requestAnswer (take (count - at) (drop at bytes)) (placeAt 0)) where
+  answered : requestAnswer (drop at (take count bytes)) (placeAt 0) ≡ a
   answered = rw (read, part-is at count bytes within)
 
-  pub count-stops : (x : Refusal) → a .answer ≡ Refused x → n ≡ wholes 80 (take count bytes)
+  pub count-stops : (x : Refusal) → a ≡ Refused x → n ≡ wholes 80 (take count bytes)
   count-stops x e = counted-stop (take count bytes) at n x c few (answered ∙ e)
 
-  pub count-goes : (k : ℕ) → a .answer ≡ Accepted → k ≡ requestSize (take (count - at) (drop at bytes)) → Counted (take count bytes) (at + k) (n + 1)
+  pub count-goes : (k : ℕ) → a ≡ Accepted → k ≡ requestSize (take (count - at) (drop at bytes)) → Counted (take count bytes) (at + k) (n + 1)
   count-goes k e h = rw (h, part-is at count bytes within) (counted-turn (take count bytes) at n c few (answered ∙ e))
 
   pub count-within : (k : ℕ) → Counted (take count bytes) (at + k) (n + 1) → at + k ≤ count
@@ -141,7 +141,7 @@ module _ (p : Plan) (bytes : List ℕ) (c : ℕ) (few : c ≤ 160) where
   shot-next y z h =
       let all : min c 160 ≡ c = omega arith in
       let hand : handed (y .reel) ≡ z .left = rw (h .bytes-same, h .count-same, all) (h .left-same) in
-      let ticks : tickAsked p (y .state) (askedOf (y .reel)) ≡ tickAsked p (z .state) (requestRead (z .left) (placeAt 0)) = rw (h .state-same, hand) in
+      let ticks : tickAsked p (y .state) (handed (y .reel)) ≡ tickAsked p (z .state) (z .left) = rw (h .state-same, hand) in
       let size : beginOf (y .reel) + requestSize (handed (y .reel)) ≡ min (y .reel .at) c + requestSize (z .left) = rw (hand, h .count-same, all) in
       let long : length (take c bytes) ≤ c = omega (arith, length-take c bytes) in
       record {
@@ -149,7 +149,7 @@ module _ (p : Plan) (bytes : List ℕ) (c : ℕ) (few : c ≤ 160) where
         count-same = h .count-same;
         state-same = rw ticks;
         left-same = drop-min _ c (take c bytes) long ∙ ap (λ (k : ℕ). drop k (take c bytes)) size ∙ sym (drop-drop (requestSize (z .left)) (min (y .reel .at) c) (take c bytes)) ∙ ap (drop (requestSize (z .left))) (h .left-same);
-        said-same = rw (ticks, h .said-same) (sym (puts-parts noText (z .said) (tickedText (p .cores) (tickAsked p (z .state) (requestRead (z .left) (placeAt 0))))));
+        said-same = rw (ticks, h .said-same) (sym (puts-parts noText (z .said) (tickedText (p .cores) (tickAsked p (z .state) (z .left)))));
       }
 
   shot-played : (n : ℕ) (x : Reel) (s : State) (z : Standing) → Alike bytes c (shotOf x s) z → Alike bytes c (shotAfter x p s n) (played p n z)
@@ -191,7 +191,7 @@ pub last-none : (w : Player) (k : ℕ) → k ≡ min (w .count) 160 → k ≡ 0 
 unfolding lastAnswer
 last-none w k e z = rw (le-leb (length (atHand w)) 0 (omega (arith, length-take (min (w .count) 160) (w .bytes))))
 
-pub last-some : (w : Player) (k : ℕ) (a : Asked) → length (w .bytes) ≡ 160 → k ≡ min (w .count) 160 → (k ≡ 0 → ⊥) → a ≡ requestRead (take k (w .bytes)) (placeAt (w .place)) → a .answer ≡ lastAnswer w
+pub last-some : (w : Player) (k : ℕ) (a : Answer) → length (w .bytes) ≡ 160 → k ≡ min (w .count) 160 → (k ≡ 0 → ⊥) → a ≡ requestAnswer (take k (w .bytes)) (placeAt (w .place)) → a ≡ lastAnswer w
 unfolding lastAnswer
 last-some w k a full e some h =
     let long : 0 < length (atHand w) = omega (arith, length-take (min (w .count) 160) (w .bytes), some) in

@@ -18,16 +18,11 @@ use Rattle.dispatch.specs.declared.State.{State}
 use Rattle.lines.specs.Lines.{totalsText}
 use Rattle.texts.specs.Text.{textOf}
 use Rattle.reading.specs.Reading.{further, planRead}
-use Rattle.replays.specs.Requests.{requestSize, requestRead}
+use Rattle.replays.specs.Requests.{requestSize, requestAnswer}
 use Rattle.replays.specs.Replay.{placeAt, closed, ticksText, told, replayText, start, Standing, next, played, wholes, atHand, standing, playedOn}
-use Rattle.replays.specs.declared.Asked.{Asked}
 use Rattle.replays.specs.declared.Player.{Player}
 use Rattle.replays.proofs.Course.{wholes-none, wholes-more, wholes-zero}
-use Rattle.replays.proofs.Good.{Good, accepted-good, good-read, size-is, read-on, size-on}
-
--- the place of a good request does not matter
-placed : (bs : List ℕ) (n : ℕ) → Good bs → requestRead bs (placeAt n) ≡ requestRead bs (placeAt 0)
-placed bs n g = good-read bs g (placeAt n) ∙ sym (good-read bs g (placeAt 0))
+use Rattle.replays.proofs.Good.{Good, accepted-good, good-accepted, good-on, finished-on, released-on, size-is, size-on}
 
 module _ (p : Plan) where
   -- the first request first, or the last one last
@@ -53,12 +48,11 @@ module _ (p : Plan) where
   first-ticks : (k n : ℕ) (z : Standing) (more : List ℕ) → Good (z .left) → z .said ++ ticksText (suc k) p n (z .state) (z .left ++ more) ≡ next p z .said ++ ticksText k p (n + requestSize (z .left)) (next p z .state) (next p z .left ++ more)
   unfolding ticksText next
   first-ticks k n z more g =
-      let long : 0 < length (z .left ++ more) = omega (arith, g .whole, length-append (z .left) more) in
-      let read : requestRead (z .left ++ more) (placeAt n) ≡ requestRead (z .left) (placeAt 0) = read-on (z .left) more (placeAt n) g ∙ placed (z .left) n g in
-      let yes : requestRead (z .left) (placeAt 0) .answer ≡ Accepted = ap (λ (a : Asked). a .answer) (good-read (z .left) g (placeAt 0)) in
-      let size : requestSize (z .left ++ more) ≡ requestSize (z .left) = size-on (z .left) more g in
-      let rest : drop (requestSize (z .left)) (z .left ++ more) ≡ drop (requestSize (z .left)) (z .left) ++ more = drop-append-le (requestSize (z .left)) (z .left) more (omega (arith, size-is (z .left), g .whole)) in
-      rw (lt-leb (length (z .left ++ more)) 0 long, read, yes, size, rest) (sym (append-assoc (z .said) _ _))
+      let long : 0 < length (z .left ++ more) = omega (arith, size-is (z .left), g .whole, length-append (z .left) more) in
+      let yes : requestAnswer (z .left ++ more) (placeAt n) ≡ Accepted = good-accepted (z .left ++ more) (good-on (z .left) g more) (placeAt n) in
+      let size : requestSize (z .left ++ more) ≡ requestSize (z .left) = size-on (z .left) g more in
+      let rest : drop (requestSize (z .left)) (z .left ++ more) ≡ drop (requestSize (z .left)) (z .left) ++ more = drop-append-le (requestSize (z .left)) (z .left) more (g .whole) in
+      rw (lt-leb (length (z .left ++ more)) 0 long, yes, finished-on (z .left) g more, released-on (z .left) g more, size, rest) (sym (append-assoc (z .said) _ _))
 
   none-played : (k n : ℕ) (z : Standing) (more : List ℕ) (m : ℕ) → m ≡ 0
       → z .said ++ ticksText (m + k) p n (z .state) (z .left ++ more)
@@ -75,7 +69,7 @@ module _ (p : Plan) where
       r : ℕ
       r = wholes j (next p z .left)
 
-      go : (a : Answer) → requestRead (z .left) (placeAt 0) .answer ≡ a
+      go : (a : Answer) → requestAnswer (z .left) (placeAt 0) ≡ a
           → next p z .said ++ ticksText (r + k) p (n + requestSize (z .left)) (next p z .state) (next p z .left ++ more)
           ≡ played p r (next p z) .said ++ ticksText k p (n + requestSize (z .left) + (length (next p z .left) - length (played p r (next p z) .left))) (played p r (next p z) .state) (played p r (next p z) .left ++ more)
           → z .said ++ ticksText (m + k) p n (z .state) (z .left ++ more)
@@ -94,15 +88,15 @@ module _ (p : Plan) where
   all-played j zero z m h e = wholes-zero _
   all-played zero (suc k) z m h e = rw (e, wholes-zero (z .left), played-none z) (go _ refl)
     where
-      go : (a : Answer) → requestRead (z .left) (placeAt 0) .answer ≡ a → wholes (suc k) (z .left) ≡ 0
+      go : (a : Answer) → requestAnswer (z .left) (placeAt 0) ≡ a → wholes (suc k) (z .left) ≡ 0
       go (Refused x) q = wholes-none k (z .left) x q
-      go Accepted q = absurd (omega (arith, accepted-good (z .left) (placeAt 0) q .whole))
+      go Accepted q = absurd (omega (arith, size-is (z .left), accepted-good (z .left) (placeAt 0) q .whole))
   all-played (suc j) (suc k) z m h e = go _ refl (λ l. all-played j (suc k) (next p z) (wholes j (next p z .left)) l refl)
     where
       r : ℕ
       r = wholes j (next p z .left)
 
-      go : (a : Answer) → requestRead (z .left) (placeAt 0) .answer ≡ a → (length (next p z .left) ≤ 2 * j → wholes (suc k) (played p r (next p z) .left) ≡ 0) → wholes (suc k) (played p m z .left) ≡ 0
+      go : (a : Answer) → requestAnswer (z .left) (placeAt 0) ≡ a → (length (next p z .left) ≤ 2 * j → wholes (suc k) (played p r (next p z) .left) ≡ 0) → wholes (suc k) (played p m z .left) ≡ 0
       go (Refused x) q ih = rw (e, wholes-none j (z .left) x q, played-none z) (wholes-none k (z .left) x q)
       go Accepted q ih =
           let g : Good (z .left) = accepted-good (z .left) (placeAt 0) q in
@@ -110,15 +104,15 @@ module _ (p : Plan) where
           rw (f, played-first r z) (ih (omega (arith, ap length (next-left z), length-drop (requestSize (z .left)) (z .left), size-is (z .left), g .whole)))
 
   -- at the end of the input what is left is no whole request: its refusal, if there is one, and the totals
-  pub at-end : (k n : ℕ) (s : State) (bs : List ℕ) → wholes 1 bs ≡ 0 → ticksText (suc k) p n s bs ≡ cond (leb (length bs) 0) (totalsText s) (closed (requestRead bs (placeAt n) .answer) s (totalsText s))
+  pub at-end : (k n : ℕ) (s : State) (bs : List ℕ) → wholes 1 bs ≡ 0 → ticksText (suc k) p n s bs ≡ cond (leb (length bs) 0) (totalsText s) (closed (requestAnswer bs (placeAt n)) s (totalsText s))
   unfolding ticksText
   at-end k n s bs h = go _ refl
     where
-      go : (a : Answer) → requestRead bs (placeAt n) .answer ≡ a → ticksText (suc k) p n s bs ≡ cond (leb (length bs) 0) (totalsText s) (closed (requestRead bs (placeAt n) .answer) s (totalsText s))
+      go : (a : Answer) → requestAnswer bs (placeAt n) ≡ a → ticksText (suc k) p n s bs ≡ cond (leb (length bs) 0) (totalsText s) (closed (requestAnswer bs (placeAt n)) s (totalsText s))
       go (Refused x) q = rw q
       go Accepted q =
           let g : Good bs = accepted-good bs (placeAt n) q in
-          let one : wholes 1 bs ≡ suc (wholes 0 (drop (requestSize bs) bs)) = wholes-more 0 bs (ap (λ (a : Asked). a .answer) (good-read bs g (placeAt 0))) in
+          let one : wholes 1 bs ≡ suc (wholes 0 (drop (requestSize bs) bs)) = wholes-more 0 bs (good-accepted bs g (placeAt 0)) in
           absurd (omega (arith, one, h))
 
 -- what is left at the beginning of a player's bytes is what is at hand

@@ -19,16 +19,15 @@ use Rattle.dispatch.specs.declared.Ticked.{Ticked}
 use Rattle.lines.specs.Lines.{tickedText, totalsText}
 use Rattle.telling.specs.Telling.{answerText, refusalText}
 use Rattle.texts.specs.Text.{noText, textOf}
-use Rattle.replays.specs.Requests.{requestSize, requestRead}
-use Rattle.replays.specs.declared.Asked.{Asked}
+use Rattle.replays.specs.Requests.{finishedIn, releasedIn, requestSize, requestAnswer}
 use Rattle.replays.specs.declared.Player.{Player}
 
 abbrev pub placeAt : ℕ → Place
 placeAt n = record { 0 = n }
 
 -- the tick that the next bytes ask for
-abbrev pub tickAsked : Plan → State → Asked → Ticked
-tickAsked p s a = tick p s (a .finished) (a .released)
+abbrev pub tickAsked : Plan → State → List ℕ → Ticked
+tickAsked p s bs = tick p s (finishedIn bs) (releasedIn bs)
 
 -- ---- the whole input
 
@@ -42,9 +41,8 @@ unfoldable pub ticksText : ℕ → Plan → ℕ → State → List ℕ → List 
 ticksText zero p n s bs = totalsText s
 ticksText (suc k) p n s bs =
     cond (leb (length bs) 0) (totalsText s)
-    (closed (requestRead bs (placeAt n) .answer) s
-    (tickedText (p .cores) (tickAsked p s (requestRead bs (placeAt n)))
-    ++ ticksText k p (n + requestSize bs) (tickAsked p s (requestRead bs (placeAt n)) .state) (drop (requestSize bs) bs)))
+    (closed (requestAnswer bs (placeAt n)) s
+    (tickedText (p .cores) (tickAsked p s bs) ++ ticksText k p (n + requestSize bs) (tickAsked p s bs .state) (drop (requestSize bs) bs)))
 
 -- how long the plan file is said to be
 abbrev pub told : List ℕ → ℕ
@@ -72,7 +70,7 @@ abbrev pub after : Plan → Standing → Ticked → Standing
 after p z t = record { state = t .state; left = drop (requestSize (z .left)) (z .left); said = z .said ++ tickedText (p .cores) t }
 
 unfoldable pub next : Plan → Standing → Standing
-next p z = after p z (tickAsked p (z .state) (requestRead (z .left) (placeAt 0)))
+next p z = after p z (tickAsked p (z .state) (z .left))
 
 -- so many requests are played
 unfoldable pub played : Plan → ℕ → Standing → Standing
@@ -86,7 +84,7 @@ oneMore Accepted n = suc n
 
 unfoldable pub wholes : ℕ → List ℕ → ℕ
 wholes zero bs = 0
-wholes (suc k) bs = oneMore (requestRead bs (placeAt 0) .answer) (wholes k (drop (requestSize bs) bs))
+wholes (suc k) bs = oneMore (requestAnswer bs (placeAt 0)) (wholes k (drop (requestSize bs) bs))
 
 -- the bytes at hand of a player
 abbrev pub atHand : Player → List ℕ
@@ -110,4 +108,4 @@ playedOn p w = standing w (played p (wholes 80 (atHand w)) (record { state = w .
 
 -- at the end of the input: nothing is left, or what is left is no whole and good request
 unfoldable pub lastAnswer : Player → Answer
-lastAnswer w = cond (leb (length (atHand w)) 0) Accepted (requestRead (atHand w) (placeAt (w .place)) .answer)
+lastAnswer w = cond (leb (length (atHand w)) 0) Accepted (requestAnswer (atHand w) (placeAt (w .place)))

@@ -9,9 +9,7 @@ use Rattle.board.specs.Kept.{keptFor}
 use Rattle.board.specs.declared.Ran.{Ran}
 use Rattle.lines.specs.Lines.{ranText}
 use Rattle.texts.specs.Text.{puts}
-use Rattle.replays.specs.Requests.{requestSize, requestRead}
-use Rattle.replays.specs.Replay.{placeAt}
-use Rattle.replays.specs.declared.Asked.{Asked}
+use Rattle.replays.specs.Requests.{finishedIn, releasedIn, requestSize}
 use Rattle.replays.specs.declared.Reel.{Reel}
 use Rattle.replays.specs.declared.Shot.{Shot}
 
@@ -25,14 +23,11 @@ beginOf x = min (x .at) (endOf x)
 abbrev pub handed : Reel → List ℕ
 handed x = drop (beginOf x) (take (endOf x) (x .bytes))
 
-abbrev pub askedOf : Reel → Asked
-askedOf x = requestRead (handed x) (placeAt 0)
-
 abbrev pub finishesOf : Reel → Plan → State → Tasks
-finishesOf x p s = askedOf x .finished
+finishesOf x p s = finishedIn (handed x)
 
 abbrev pub releasesOf : Reel → Plan → State → Tasks
-releasesOf x p s = askedOf x .released
+releasesOf x p s = releasedIn (handed x)
 
 -- one request on
 unfoldable pub shownOf : Reel → Plan → Ran → State → Reel

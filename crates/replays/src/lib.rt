@@ -1,12 +1,11 @@
 // Replays: ticks that come as bytes, one request after another, are made where they are whole, and the lines that they print.
 ghost use mathlib.Core.Path.{_≡_};
 ghost use Prim.Native.Nat.{_+_, _-_, _≤_, _<_, min};
-ghost use lib.ListN.{length, getD, take};
+ghost use lib.ListN.{getD, take};
 ghost use Rattle.tasks.specs.Below.{padded};
-ghost use Rattle.runs.specs.Allowed.{noTasks};
-ghost use Rattle.replays.specs.Requests.{tasksAt, requestSize, refusedRequest, requestRead};
+ghost use Rattle.replays.specs.Requests.{tasksAt, finishedIn, releasedIn, requestSize, requestAnswer};
 ghost use Rattle.replays.specs.Replay.{wholes, start as begun, playedOn, lastAnswer};
-ghost use Rattle.replays.specs.Turns.{askedOf, shownOf, shotOf, shotAfter};
+ghost use Rattle.replays.specs.Turns.{handed, shownOf, shotOf, shotAfter};
 use board::Ran;
 use dispatch::State;
 use dispatch::Tasks;
@@ -16,13 +15,6 @@ use tasks::Place;
 use tasks::Refusal;
 use tasks::TaskNo;
 use texts::Text;
-
-// A tick's two sets, or why the bytes hold none.
-pub struct Asked {
-    pub answer: Answer,
-    pub finished: Tasks,
-    pub released: Tasks,
-}
 
 // A replay under way: the state, the bytes at hand, which are the first `count`, the place of the first of them in the input, and the lines to print.
 pub struct Player {
@@ -53,34 +45,11 @@ fn smaller(a: usize, b: usize) -> usize
     if a < b { a } else { b }
 }
 
-fn no_tasks() -> Tasks
-    ensures { λ r. ⌜ r ≡ noTasks ⌝ }
-{
-    Tasks {
-        members: [TaskNo(0); 64],
-        count: 0,
-    }
-}
-
 // A byte as an index.
 fn wide(x: u8) -> usize
     ensures { λ r. ⌜ (r ≡ x) × (r < 256) ⌝ }
 {
     x as usize
-}
-
-// The n tasks whose numbers stand from a place on.
-fn tasks_at(bytes: &[u8], at: usize, n: usize) -> Tasks
-    requires { ⌜ (n ≤ 64) × (at + n ≤ length (now bytes)) ⌝ }
-    ensures { λ r. ⌜ r ≡ tasksAt (now (bytes .entry)) at n ⌝ }
-{
-    let mut members = [TaskNo(0); 64];
-    let mut k = 0;
-    while k < n {
-        members[k] = TaskNo(bytes[at + k]);
-        k += 1;
-    }
-    Tasks { members, count: n }
 }
 
 // The byte at a place, or 0 past the end.
@@ -102,42 +71,35 @@ fn request_size(bytes: &[u8]) -> usize
     2 + a + b
 }
 
-fn refused(refusal: Refusal) -> Asked
-    ensures { λ r. ⌜ r ≡ refusedRequest refusal ⌝ }
+// The tasks that are counted by the byte at a place, and whose numbers stand after it.
+fn tasks_at(bytes: &[u8], at: usize) -> Tasks
+    requires { ⌜ at < 512 ⌝ }
+    ensures { λ r. ⌜ r ≡ tasksAt (now (bytes .entry)) at ⌝ }
 {
-    Asked {
-        answer: Answer::Refused(refusal),
-        finished: no_tasks(),
-        released: no_tasks(),
+    let count = byte_at(bytes, at);
+    let end = smaller(count, 64);
+    let mut members = [TaskNo(0); 64];
+    let mut k = 0;
+    while k < end {
+        members[k] = TaskNo(byte_at(bytes, at + 1 + k) as u8);
+        k += 1;
     }
+    Tasks { members, count }
 }
 
-// Reads a tick's request: any bytes at all, the first of which stands at `start` of the input.
-fn read_request(bytes: &[u8], start: Place) -> Asked
-    ensures { λ r. ⌜ r ≡ requestRead (now (bytes .entry)) start ⌝ }
+// Whether a request is whole and good: any bytes at all, the first of which stands at `start` of the input.
+fn request_answer(bytes: &[u8], start: Place) -> Answer
+    ensures { λ r. ⌜ r ≡ requestAnswer (now (bytes .entry)) start ⌝ }
 {
-    if bytes.len() <= 0 {
-        return refused(Refusal::CutShort(start));
-    }
-    let a = wide(bytes[0]);
-    if 64 < a {
-        return refused(Refusal::WrongLength(start));
-    }
-    if bytes.len() <= 1 + a {
-        return refused(Refusal::CutShort(start));
-    }
-    let b = wide(bytes[1 + a]);
-    if 64 < b {
-        return refused(Refusal::WrongLength(start));
+    let a = byte_at(bytes, 0);
+    let b = byte_at(bytes, 1 + a);
+    if (64 < a) | (64 < b) {
+        return Answer::Refused(Refusal::WrongLength(start));
     }
     if bytes.len() < 2 + a + b {
-        return refused(Refusal::CutShort(start));
+        return Answer::Refused(Refusal::CutShort(start));
     }
-    Asked {
-        answer: Answer::Accepted,
-        finished: tasks_at(bytes, 1, a),
-        released: tasks_at(bytes, 2 + a, b),
-    }
+    Answer::Accepted
 }
 
 // With how many whole and good requests the bytes at hand begin: each has two bytes at least.
@@ -148,58 +110,48 @@ fn whole_requests(bytes: [u8; 160], count: usize) -> usize
     let mut at = 0;
     let mut n = 0;
     while n < 80 {
-        let asked = read_request(&bytes[at..count], Place(0));
-        let answer = asked.answer;
+        let part = &bytes[at..count];
+        let answer = request_answer(part, Place(0));
         if let Answer::Refused(_) = answer {
             return n;
         }
-        at += request_size(&bytes[at..count]);
+        at += request_size(part);
         n += 1;
     }
     n
 }
 
-// The request that is next.
-fn ask(reel: Reel) -> Asked
-    ensures { λ r. ⌜ r ≡ askedOf reel ⌝ }
+// The tasks that the next request tells as finished.
+fn finishes(reel: Reel, _plan: Plan, _state: State) -> Tasks
+    ensures { λ r. ⌜ r ≡ finishedIn (handed reel) ⌝ }
 {
     let bytes = reel.bytes;
     let end = smaller(reel.count, 160);
     let begin = smaller(reel.at, end);
-    read_request(&bytes[begin..end], Place(0))
-}
-
-// The tasks that the next request tells as finished.
-fn finishes(reel: Reel, _plan: Plan, _state: State) -> Tasks
-    ensures { λ r. ⌜ r ≡ askedOf reel .finished ⌝ }
-{
-    let asked = ask(reel);
-    asked.finished
+    tasks_at(&bytes[begin..end], 0)
 }
 
 // The tasks that the next request releases.
 fn releases(reel: Reel, _plan: Plan, _state: State) -> Tasks
-    ensures { λ r. ⌜ r ≡ askedOf reel .released ⌝ }
+    ensures { λ r. ⌜ r ≡ releasedIn (handed reel) ⌝ }
 {
-    let asked = ask(reel);
-    asked.released
+    let bytes = reel.bytes;
+    let end = smaller(reel.count, 160);
+    let begin = smaller(reel.at, end);
+    let part = &bytes[begin..end];
+    tasks_at(part, 1 + byte_at(part, 0))
 }
 
 // A tick's line is told, and the request after it is next.
-fn show(reel: Reel, plan: Plan, ran: Ran, _state: State) -> Reel
+fn show(mut reel: Reel, plan: Plan, ran: Ran, _state: State) -> Reel
     ensures { λ r. ⌜ r ≡ shownOf reel plan ran «_state» ⌝ }
 {
     let bytes = reel.bytes;
-    let text = reel.text;
     let end = smaller(reel.count, 160);
     let begin = smaller(reel.at, end);
-    let size = request_size(&bytes[begin..end]);
-    Reel {
-        bytes,
-        count: reel.count,
-        at: begin + size,
-        text: lines::ran(text, plan.cores, ran),
-    }
+    reel.at = begin + request_size(&bytes[begin..end]);
+    reel.text = lines::ran(reel.text, plan.cores, ran);
+    reel
 }
 
 fn taken(reel: Reel, state: State) -> Shot
@@ -255,7 +207,6 @@ pub fn play(player: Player, plan: Plan) -> Player
     ensures { λ r. ⌜ r ≡ playedOn plan player ⌝ }
 {
     let bytes = player.bytes;
-    let state = player.state;
     let count = smaller(player.count, 160);
     let n = whole_requests(bytes, count);
     let reel = Reel {
@@ -264,7 +215,7 @@ pub fn play(player: Player, plan: Plan) -> Player
         at: 0,
         text: Text::empty(),
     };
-    let shot = shoot(reel, plan, state, n);
+    let shot = shoot(reel, plan, player.state, n);
     let done = shot.reel;
     let state = shot.state;
     let text = done.text;
@@ -287,6 +238,5 @@ pub fn last(player: Player) -> Answer
     if count == 0 {
         return Answer::Accepted;
     }
-    let asked = read_request(&bytes[..count], Place(player.place));
-    asked.answer
+    request_answer(&bytes[..count], Place(player.place))
 }

@@ -18,13 +18,13 @@ part-bytes-start : tie.Need-part-bytes-start
 part-bytes-start c = search needs
 
 part-bytes-end : tie.Need-part-bytes-end
-part-bytes-end c = let l : length (c .before .before .before .before .args .player .bytes) ≡ 160 = simp length-map at (c .before .before .before .before .good .0 .1 .1 .1 .0 .1 .0 .1) in omega arith
+part-bytes-end c = let l : length (c .before .before .args .player .bytes) ≡ 160 = simp length-map at (c .before .before .good .0 .1 .1 .1 .0 .1 .0 .1) in omega arith
 
 read-some-requires : tie.Need-read-some-requires
 read-some-requires c κs = search needs
 
-add-t10 : tie.Need-add-t10
-add-t10 c = search needs
+add-player : tie.Need-add-player
+add-player c = search needs
 
 returns-2 : tie.Need-returns-2
 returns-2 c = search needs
@@ -38,5 +38,5 @@ feed-some-spec =
     part-bytes-start
     part-bytes-end
     read-some-requires
-    add-t10
+    add-player
     returns-2)

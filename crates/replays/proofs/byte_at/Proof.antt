@@ -4,9 +4,6 @@ use lib.ListN.{List·getD-eq-default}
 use borrow.Author.Needs.{needs}
 use Rattle.replays.proofs.byte_at.Statement.{statement}
 use Rattle.replays.proofs.byte_at.Tie as tie
-use Rattle.replays.proofs.byte_at.Reads as reads
-use Rattle.replays.proofs.byte_at.Lts as lts
-use Rattle.replays.proofs.wide.Reads as wide-reads
 
 shared-slice-read-wide : tie.Need-shared-slice-read-wide
 shared-slice-read-wide c = search needs

@@ -6,10 +6,6 @@ use lib.ListN.{length, length-map}
 use borrow.Author.Needs.{needs}
 use Rattle.replays.proofs.last.Statement.{statement}
 use Rattle.replays.proofs.last.Tie as tie
-use Rattle.replays.proofs.last.Reads as reads
-use Rattle.replays.proofs.last.Lts as lts
-use Rattle.replays.proofs.read_request.Reads as read-request-reads
-use Rattle.replays.proofs.smaller.Reads as smaller-reads
 
 smaller-requires : tie.Need-smaller-requires
 smaller-requires c κs = search needs
@@ -20,14 +16,14 @@ returns c = last-none _ _ (c .before .smaller .ensures) (omega arith)
 array-share-prefix-bytes : tie.Need-array-share-prefix-bytes
 array-share-prefix-bytes c = let l : length (c .before .before .before .args .player .bytes) ≡ 160 = simp length-map at (c .before .before .before .good .0 .1 .1 .1 .0 .1 .0 .1) in omega arith
 
-slice-aggregate-read-request : tie.Need-slice-aggregate-read-request
-slice-aggregate-read-request c = let l : length (c .before .before .before .before .args .player .bytes) ≡ 160 = simp length-map at (c .before .before .before .before .good .0 .1 .1 .1 .0 .1 .0 .1) in sym (length-take-le _ _ (omega arith))
+slice-aggregate-request-answer : tie.Need-slice-aggregate-request-answer
+slice-aggregate-request-answer c = let l : length (c .before .before .before .before .args .player .bytes) ≡ 160 = simp length-map at (c .before .before .before .before .good .0 .1 .1 .1 .0 .1 .0 .1) in sym (length-take-le _ _ (omega arith))
 
-read-request-requires : tie.Need-read-request-requires
-read-request-requires c κs = search needs
+request-answer-requires : tie.Need-request-answer-requires
+request-answer-requires c κs = search needs
 
 returns-2 : tie.Need-returns-2
-returns-2 c = let l : length (c .before .before .before .before .before .args .player .bytes) ≡ 160 = simp length-map at (c .before .before .before .before .before .good .0 .1 .1 .1 .0 .1 .0 .1) in last-some _ _ _ l (c .before .before .before .smaller .ensures) (c .before .before .if1 .left) (c .read-request .ensures)
+returns-2 c = let l : length (c .before .before .before .before .before .args .player .bytes) ≡ 160 = simp length-map at (c .before .before .before .before .before .good .0 .1 .1 .1 .0 .1 .0 .1) in last-some _ _ _ l (c .before .before .before .smaller .ensures) (c .before .before .if1 .left) (c .request-answer .ensures)
 
 pub last-spec : {M : Type 1} → statement M
 last-spec =
@@ -36,6 +32,6 @@ last-spec =
     smaller-requires
     returns
     array-share-prefix-bytes
-    slice-aggregate-read-request
-    read-request-requires
+    slice-aggregate-request-answer
+    request-answer-requires
     returns-2)

@@ -8,8 +8,6 @@ use Rattle.tasks.proofs.Padded.{padded-turn}
 use Rattle.tasks.proofs.Tabulate.{padded-start}
 use Rattle.replays.proofs.left.Statement.{statement}
 use Rattle.replays.proofs.left.Tie as tie
-use Rattle.replays.proofs.left.Reads as reads
-use Rattle.replays.proofs.left.Lts as lts
 
 abbrev Inv-loop : tie.InvT-loop
 Inv-loop count at bytes moved₀ i₀ moved i = (at ≤ count) × (count ≤ 160) × (length bytes ≡ 160) × (i ≤ count - at) × (moved ≡ padded 160 i 0 (λ k. getD bytes (at + k) 0))

@@ -4,14 +4,6 @@ use Rattle.replays.proofs.Course.{played-is}
 use borrow.Author.Needs.{needs}
 use Rattle.replays.proofs.play.Statement.{statement}
 use Rattle.replays.proofs.play.Tie as tie
-use Rattle.replays.proofs.play.Reads as reads
-use Rattle.replays.proofs.play.Lts as lts
-use Rattle.texts.proofs.Text.empty.Reads as empty-reads
-use Rattle.reading.proofs.further.Reads as further-reads
-use Rattle.replays.proofs.left.Reads as left-reads
-use Rattle.replays.proofs.shoot.Reads as shoot-reads
-use Rattle.replays.proofs.smaller.Reads as smaller-reads
-use Rattle.replays.proofs.whole_requests.Reads as whole-requests-reads
 
 smaller-requires : tie.Need-smaller-requires
 smaller-requires c κs = search needs
@@ -31,14 +23,14 @@ smaller-requires-2 c κs = search needs
 left-requires : tie.Need-left-requires
 left-requires c κs = search needs
 
-sub-t15 : tie.Need-sub-t15
-sub-t15 c = search needs
+sub-t14 : tie.Need-sub-t14
+sub-t14 c = search needs
 
 further-requires : tie.Need-further-requires
 further-requires c κs = search needs
 
 returns : tie.Need-returns
-returns c = let l : length (c .before .before .before .before .before .before .before .before .before .before .before .before .args .player .bytes) ≡ 160 = simp length-map at (c .before .before .before .before .before .before .before .before .before .before .before .before .good .0 .1 .1 .1 .0 .1 .0 .1) in played-is (c .before .before .before .before .before .before .before .before .before .before .before .before .args .plan) (c .before .before .before .before .before .before .before .before .before .before .before .before .args .player) _ _ _ _ _ _ _ l (c .before .before .before .before .before .before .before .before .before .smaller .ensures) (c .before .before .before .before .before .before .before .before .whole-requests .ensures) (c .before .before .before .before .before .before .before .empty .ensures) (c .before .before .before .before .before .before .shoot .ensures) (c .before .before .smaller2 .ensures) (c .before .left .ensures) (c .further .ensures)
+returns c = let l : length (c .before .before .before .before .before .before .before .before .before .before .before .args .player .bytes) ≡ 160 = simp length-map at (c .before .before .before .before .before .before .before .before .before .before .before .good .0 .1 .1 .1 .0 .1 .0 .1) in played-is (c .before .before .before .before .before .before .before .before .before .before .before .args .plan) (c .before .before .before .before .before .before .before .before .before .before .before .args .player) _ _ _ _ _ _ _ l (c .before .before .before .before .before .before .before .before .before .smaller .ensures) (c .before .before .before .before .before .before .before .before .whole-requests .ensures) (c .before .before .before .before .before .before .before .empty .ensures) (c .before .before .before .before .before .before .shoot .ensures) (c .before .before .smaller2 .ensures) (c .before .left .ensures) (c .further .ensures)
 
 pub play-spec : {M : Type 1} → statement M
 play-spec =
@@ -50,6 +42,6 @@ play-spec =
     shoot-requires
     smaller-requires-2
     left-requires
-    sub-t15
+    sub-t14
     further-requires
     returns)

@@ -3,9 +3,6 @@ use Rattle.replays.specs.Requests.{requestSize}
 use borrow.Author.Needs.{needs}
 use Rattle.replays.proofs.request_size.Statement.{statement}
 use Rattle.replays.proofs.request_size.Tie as tie
-use Rattle.replays.proofs.request_size.Reads as reads
-use Rattle.replays.proofs.request_size.Lts as lts
-use Rattle.replays.proofs.byte_at.Reads as byte-at-reads
 
 byte-at-requires : tie.Need-byte-at-requires
 byte-at-requires c κs = search needs

@@ -5,11 +5,6 @@ use lib.ListN.{length, length-map}
 use borrow.Author.Needs.{needs}
 use Rattle.replays.proofs.show.Statement.{statement}
 use Rattle.replays.proofs.show.Tie as tie
-use Rattle.replays.proofs.show.Reads as reads
-use Rattle.replays.proofs.show.Lts as lts
-use Rattle.lines.proofs.ran.Reads as ran-reads
-use Rattle.replays.proofs.request_size.Reads as request-size-reads
-use Rattle.replays.proofs.smaller.Reads as smaller-reads
 
 smaller-requires : tie.Need-smaller-requires
 smaller-requires c κs = search needs
@@ -24,13 +19,13 @@ part-request-size-start : tie.Need-part-request-size-start
 part-request-size-start c = search needs
 
 part-request-size-end : tie.Need-part-request-size-end
-part-request-size-end c = let l : length (c .before .before .before .before .before .args .reel .bytes) ≡ 160 = simp length-map at (c .before .before .before .before .before .good .0 .1 .1 .0 .1 .0 .1) in omega arith
+part-request-size-end c = let l : length (c .before .before .before .before .args .reel .bytes) ≡ 160 = simp length-map at (c .before .before .before .before .good .0 .1 .1 .0 .1 .0 .1) in omega arith
 
 request-size-requires : tie.Need-request-size-requires
 request-size-requires c κs = search needs
 
-add-t12 : tie.Need-add-t12
-add-t12 c = search needs
+add-reel : tie.Need-add-reel
+add-reel c = search needs
 
 ran-requires : tie.Need-ran-requires
 ran-requires c κs = search needs
@@ -48,6 +43,6 @@ show-spec =
     part-request-size-start
     part-request-size-end
     request-size-requires
-    add-t12
+    add-reel
     ran-requires
     returns)

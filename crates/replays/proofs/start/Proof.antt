@@ -1,10 +1,6 @@
 use borrow.Author.Needs.{needs}
 use Rattle.replays.proofs.start.Statement.{statement}
 use Rattle.replays.proofs.start.Tie as tie
-use Rattle.replays.proofs.start.Reads as reads
-use Rattle.replays.proofs.start.Lts as lts
-use Rattle.dispatch.proofs.fresh.Reads as fresh-reads
-use Rattle.texts.proofs.Text.empty.Reads as empty-reads
 
 fresh-requires : tie.Need-fresh-requires
 fresh-requires c κs = search needs

@@ -7,10 +7,6 @@ use lib.ListN.{length, take}
 use Rattle.replays.proofs.Course.{Counted, counted-end}
 use Rattle.replays.proofs.whole_requests.Statement.{statement}
 use Rattle.replays.proofs.whole_requests.Tie as tie
-use Rattle.replays.proofs.whole_requests.Reads as reads
-use Rattle.replays.proofs.whole_requests.Lts as lts
-use Rattle.replays.proofs.read_request.Reads as read-request-reads
-use Rattle.replays.proofs.request_size.Reads as request-size-reads
 
 abbrev Inv-loop : tie.InvT-loop
 Inv-loop count bytes at₀ n₀ at n = (count ≤ 160) × (length bytes ≡ 160) × (at ≤ count) × Counted (take count bytes) at n
@@ -21,35 +17,26 @@ abbrev μ-loop : tie.MeasureT-loop
 loop-holds : tie.Need-loop-holds Inv-loop μ-loop
 loop-holds c = search needs
 
-sub-read-request : tie.Need-sub-read-request Inv-loop μ-loop
-sub-read-request c = search needs
+sub-part : tie.Need-sub-part Inv-loop μ-loop
+sub-part c = search needs
 
-part-read-request-start : tie.Need-part-read-request-start Inv-loop μ-loop
-part-read-request-start c = search needs
+part-part-start : tie.Need-part-part-start Inv-loop μ-loop
+part-part-start c = search needs
 
-part-read-request-end : tie.Need-part-read-request-end Inv-loop μ-loop
-part-read-request-end c = search needs
+part-part-end : tie.Need-part-part-end Inv-loop μ-loop
+part-part-end c = search needs
 
-read-request-requires : tie.Need-read-request-requires Inv-loop μ-loop
-read-request-requires c κs = search needs
+request-answer-requires : tie.Need-request-answer-requires Inv-loop μ-loop
+request-answer-requires c κs = search needs
 
 enum-told : tie.Need-enum-told Inv-loop μ-loop
 enum-told c = search needs
 
 returns : tie.Need-returns Inv-loop μ-loop
-returns c = count-stops _ _ _ _ _ (c .before .before .before .before .before .before .loop .inv .3) (omega arith) (omega arith) (c .before .before .read-request .ensures) _ (c .enum-told .given .1)
+returns c = count-stops _ _ _ _ _ (c .before .before .before .before .before .before .loop .inv .3) (omega arith) (omega arith) (c .before .before .request-answer .ensures) _ (c .enum-told .given .1)
 
 enum-told-2 : tie.Need-enum-told-2 Inv-loop μ-loop
 enum-told-2 c = search needs
-
-sub-request-size : tie.Need-sub-request-size Inv-loop μ-loop
-sub-request-size c = search needs
-
-part-request-size-start : tie.Need-part-request-size-start Inv-loop μ-loop
-part-request-size-start c = search needs
-
-part-request-size-end : tie.Need-part-request-size-end Inv-loop μ-loop
-part-request-size-end c = search needs
 
 request-size-requires : tie.Need-request-size-requires Inv-loop μ-loop
 request-size-requires c κs = search needs
@@ -64,7 +51,9 @@ loop-less : tie.Need-loop-less Inv-loop μ-loop
 loop-less c = search needs
 
 loop-again : tie.Need-loop-again Inv-loop μ-loop
-loop-again c = let d = count-goes _ _ _ _ _ (c .before .before .before .before .before .before .before .before .before .loop .inv .3) (omega arith) (omega arith) (c .before .before .before .before .before .read-request .ensures) _ (c .before .before .before .enum-told2 .given .1) (c .request-size .ensures .0) in (search needs, search needs, count-within _ _ _ _ _ (c .before .before .before .before .before .before .before .before .before .loop .inv .3) (omega arith) (omega arith) (c .before .before .before .before .before .read-request .ensures) _ d, d)
+loop-again c =
+    let d = count-goes _ _ _ _ _ (c .before .before .before .before .before .before .before .loop .inv .3) (omega arith) (omega arith) (c .before .before .before .request-answer .ensures) _ (c .before .enum-told2 .given .1) (c .request-size .ensures .0) in
+    (search needs, search needs, count-within _ _ _ _ _ (c .before .before .before .before .before .before .before .loop .inv .3) (omega arith) (omega arith) (c .before .before .before .request-answer .ensures) _ d, d)
 
 returns-2 : tie.Need-returns-2 Inv-loop μ-loop
 returns-2 c = counted-end _ _ _ (c .before .loop .inv .3) (omega arith)
@@ -76,16 +65,13 @@ whole-requests-spec =
     Inv-loop
     μ-loop
     loop-holds
-    sub-read-request
-    part-read-request-start
-    part-read-request-end
-    read-request-requires
+    sub-part
+    part-part-start
+    part-part-end
+    request-answer-requires
     enum-told
     returns
     enum-told-2
-    sub-request-size
-    part-request-size-start
-    part-request-size-end
     request-size-requires
     add-at
     add-n
