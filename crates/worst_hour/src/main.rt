@@ -12,13 +12,17 @@ fn task(cost: u32, deadline: u32, period: u32) -> Task {
     }
 }
 
-// Two heavy jobs, the slope fit and the mask fit, come last: they are shared, and meet on core 1.
-fn four_cores() -> Table {
-    let mut tasks = [task(0, 0, 0); 64];
-    tasks[0] = task(12, 20, 20);
+// What both tables begin with.
+fn slope() -> [Task; 64] {
+    let mut tasks = [task(12, 20, 20); 64];
     tasks[1] = task(11, 20, 20);
     tasks[2] = task(14, 20, 20);
-    tasks[3] = task(12, 20, 20);
+    tasks
+}
+
+// Two heavy jobs, the slope fit and the mask fit, come last: they are shared, and meet on core 1.
+fn four_cores() -> Table {
+    let mut tasks = slope();
     tasks[4] = task(13, 25, 25);
     tasks[5] = task(11, 30, 30);
     Table {
@@ -29,12 +33,9 @@ fn four_cores() -> Table {
 }
 
 fn eight_cores() -> Table {
-    let four = four_cores();
-    let mut tasks = four.tasks;
-    tasks[4] = task(12, 20, 20);
+    let mut tasks = slope();
     tasks[5] = task(13, 20, 20);
     tasks[6] = task(14, 20, 20);
-    tasks[7] = task(12, 20, 20);
     tasks[8] = task(13, 25, 25);
     tasks[9] = task(11, 30, 30);
     Table {
