@@ -77,7 +77,7 @@ boundings = record {
 
 -- ---- a lent list of pieces
 -- the machine type and value of a lent list of pieces, what it owns, and the token of its lifetime
-abbrev listed : Ty
+abbrev pub listed : Ty
 listed = sliceTy (tyRef (named 0) imm (pointee (Z.the-row .written)))
 
 abbrev pub listVal : RefT (List Piece) → Val
