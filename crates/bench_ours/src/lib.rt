@@ -1,8 +1,8 @@
 // Our side of the benchmark: a table file planned, and ticks of a plan file at full rate, each told as a checksum.
 ghost use Prim.Native.Nat.{_≤_};
-use dispatch::CoreRun;
-use dispatch::Runner;
-use dispatch::Tasks;
+use jobs::CoreRun;
+use jobs::Runner;
+use jobs::Tasks;
 use plans::Kind;
 use plans::Plan;
 use tasks::Answer;

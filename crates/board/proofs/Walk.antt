@@ -28,10 +28,10 @@ use denote.Triple.Clauses.{Ended, Clauses, Lasts, ensured, lasts, atExit}
 use denote.Triple.Entry.{Args, Res}
 use Rattle.plans.proofs.Plan as P
 use Rattle.plans.proofs.Plan.Laws as P′
-use Rattle.dispatch.proofs.State as S
-use Rattle.dispatch.proofs.State.Laws as S′
-use Rattle.dispatch.proofs.Tasks as U
-use Rattle.dispatch.proofs.Tasks.Laws as U′
+use Rattle.rules.proofs.State as S
+use Rattle.rules.proofs.State.Laws as S′
+use Rattle.jobs.proofs.Tasks as U
+use Rattle.jobs.proofs.Tasks.Laws as U′
 use Rattle.dispatch.proofs.Ticked as K
 use Rattle.dispatch.proofs.Ticked.Laws as K′
 use Rattle.board.proofs.Ran as R

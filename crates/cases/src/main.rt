@@ -1,16 +1,16 @@
 // The cases of document 01 that are not proved as examples: each prints what comes of it, and the gate compares.
 use board::Ran;
 use bounds::Bounding;
-use dispatch::Job;
-use dispatch::Phase;
-use dispatch::State;
-use dispatch::Tasks;
 use force::InForce;
+use jobs::Job;
+use jobs::Phase;
+use jobs::Tasks;
 use libc::STDOUT_FILENO;
 use plans::Kind;
 use plans::Piece;
 use plans::Plan;
 use reading::ReadTable;
+use rules::State;
 use tasks::Answer;
 use tasks::CoreNo;
 use tasks::Table;

@@ -20,23 +20,26 @@ use Rattle.plans.specs.Pieces.{taskOf, pieceOf, SamePlan}
 use Rattle.plans.specs.Rank.{above}
 use Rattle.plans.specs.declared.Piece.{Piece}
 use Rattle.plans.specs.declared.Plan.{Plan}
-use Rattle.dispatch.specs.Jobs.{noJob, noRun, jobOf, lastOf, byRunner, onceReleased, names, SameState}
+use Rattle.jobs.specs.Jobs.{noJob, noRun, byRunner, onceReleased, names}
+use Rattle.rules.specs.States.{jobOf, lastOf, SameState, wellMade}
 use Rattle.dispatch.specs.Refusing.{notRun, tooSoon, stillActive, lowest, judgedSets, judged}
-use Rattle.dispatch.specs.Rules.{eachJob, finishedJob, finish, turnsLate, markedJob, markLate, firstPiece, releasedJob, release, pieceAt, standsOn, beats, highest, chosen, runsNow, ranJob, run, preempted, countPreempted, agedJob, age}
-use Rattle.dispatch.specs.Sets.{member, SameSet}
-use Rattle.dispatch.specs.Sound.{Sound, AtPieces}
-use Rattle.dispatch.specs.Tick.{nextState, answered, tick}
-use Rattle.dispatch.specs.WellMade.{pieceExists, jobWellMade, coreWellMade, wellMade}
-use Rattle.dispatch.specs.declared.CoreRun.{CoreRun}
-use Rattle.dispatch.specs.declared.Job.{Job}
-use Rattle.dispatch.specs.declared.Runner.{Runner}
-use Rattle.dispatch.specs.declared.Runner.the-variants.{Idle, Runs}
-use Rattle.dispatch.specs.declared.State.{State}
-use Rattle.dispatch.specs.declared.Tasks.{Tasks}
-use Rattle.dispatch.proofs.Checked.{accepted-not, Good, good, sound, Taken, taken}
+use Rattle.rules.specs.Rules.{eachJob, finishedJob, finish, turnsLate, markedJob, markLate, firstPiece, releasedJob, release, pieceAt, standsOn, beats, highest, chosen, runsNow, ranJob, run, preempted, countPreempted, agedJob, age}
+use Rattle.jobs.specs.Sets.{member, SameSet}
+use Rattle.rules.specs.Sound.{Sound, AtPieces}
+use Rattle.rules.specs.Advance.{nextState, checked}
+use Rattle.dispatch.specs.Tick.{answered, tick}
+use Rattle.made.specs.WellMade.{pieceExists, jobWellMade, coreWellMade}
+use Rattle.jobs.specs.declared.CoreRun.{CoreRun}
+use Rattle.jobs.specs.declared.Job.{Job}
+use Rattle.jobs.specs.declared.Runner.{Runner}
+use Rattle.jobs.specs.declared.Runner.the-variants.{Idle, Runs}
+use Rattle.rules.specs.declared.State.{State}
+use Rattle.jobs.specs.declared.Tasks.{Tasks}
+use Rattle.rules.proofs.Checked.{accepted-not, Good, good, sound}
+use Rattle.dispatch.proofs.Checked.{Taken, taken}
 use Rattle.dispatch.proofs.Kept.{ready, by-judged}
-use Rattle.dispatch.proofs.Steps.{finish-out, ready-pieces}
-use Rattle.dispatch.proofs.Highest.{runner-stands}
+use Rattle.rules.proofs.Steps.{finish-out, ready-pieces}
+use Rattle.rules.proofs.Highest.{runner-stands}
 use Rattle.shapes.proofs.SamePlans.{last-same, checked-same}
 
 state-is : (s t : State) → s .jobs ≡ t .jobs → s .last ≡ t .last → s .late ≡ t .late → s .preemptions ≡ t .preemptions → s ≡ t
@@ -63,7 +66,7 @@ module _ (a b : Plan) (plans : SamePlan a b) where
   job-same i l j = rw (plans .tasks i l, exists-same i j)
 
   module _ (s t : State) (states : SameState a s t) where
-    core-same : (x : ℕ) → x < a .cores → coreWellMade a s x ≡ coreWellMade b t x
+    core-same : (x : ℕ) → x < a .cores → coreWellMade a (s .jobs) (s .last) x ≡ coreWellMade b (t .jobs) (t .last) x
     unfolding coreWellMade
     core-same x l = rw (states .last x l) (go (lastOf t x))
       where
@@ -77,7 +80,7 @@ module _ (a b : Plan) (plans : SamePlan a b) where
 
     made-same : wellMade a s ≡ wellMade b t
     unfolding wellMade
-    made-same = rw (all-same (a .count) (λ i. jobWellMade a i (jobOf s i)) (λ i. jobWellMade b i (jobOf t i)) (λ i l. job-same i l (jobOf s i) ∙ ap (jobWellMade b i) (states .jobs i l)), all-same (a .cores) (coreWellMade a s) (coreWellMade b t) core-same, plans .count, plans .cores)
+    made-same = rw (all-same (a .count) (λ i. jobWellMade a i (jobOf s i)) (λ i. jobWellMade b i (jobOf t i)) (λ i l. job-same i l (jobOf s i) ∙ ap (jobWellMade b i) (states .jobs i l)), all-same (a .cores) (coreWellMade a (s .jobs) (s .last)) (coreWellMade b (t .jobs) (t .last)) core-same, plans .count, plans .cores)
 
   -- ---- the rules: two states whose jobs are the same, and whose cores and totals are the same for the plan
   record Alike (s t : State) : Type 0 where
@@ -219,7 +222,7 @@ module _ (a b : Plan) (plans : SamePlan a b) where
     sets-same = rw (lowest-same fs gs finished (notRun a s) (notRun b t) NotRun run-before, lowest-same rs us released (tooSoon a (finish a fs s)) (tooSoon b (finish b gs t)) TooSoon soon-same, lowest-same rs us released (stillActive a (finish a fs s)) (stillActive b (finish b gs t)) StillActive active-same)
 
     pub judged-same : judged a s fs rs ≡ judged b t gs us
-    unfolding judged
+    unfolding judged checked
     judged-same = rw (checked-same a b plans, made-same s t states, sets-same)
 
     -- ---- the next state

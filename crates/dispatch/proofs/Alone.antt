@@ -8,15 +8,18 @@ use lib.ListN.{getD}
 use Rattle.tasks.specs.declared.Answer.the-variants.{Accepted}
 use Rattle.tasks.proofs.Bools.{clash}
 use Rattle.plans.specs.declared.Plan.{Plan}
-use Rattle.dispatch.specs.Jobs.{noRun, lastOf, names}
+use Rattle.jobs.specs.Jobs.{noRun, names}
+use Rattle.rules.specs.States.{lastOf}
 use Rattle.dispatch.specs.Refusing.{judged}
-use Rattle.dispatch.specs.Tick.{nextState, tick}
-use Rattle.dispatch.specs.declared.Runner.{Runner}
-use Rattle.dispatch.specs.declared.State.{State}
-use Rattle.dispatch.specs.declared.Tasks.{Tasks}
+use Rattle.rules.specs.Advance.{nextState}
+use Rattle.dispatch.specs.Tick.{tick}
+use Rattle.jobs.specs.declared.Runner.{Runner}
+use Rattle.rules.specs.declared.State.{State}
+use Rattle.jobs.specs.declared.Tasks.{Tasks}
 use Rattle.dispatch.specs.declared.Ticked.{Ticked}
-use Rattle.dispatch.proofs.Checked.{Good, good, taken}
-use Rattle.dispatch.proofs.Highest.{OnCore, runs-there}
+use Rattle.rules.proofs.Checked.{Good, good}
+use Rattle.dispatch.proofs.Checked.{taken}
+use Rattle.rules.proofs.Highest.{OnCore, runs-there}
 use Rattle.dispatch.proofs.Kept.{ready, next-last, next-clean, by-judged, fresh-core}
 
 -- what a tick answers for core x

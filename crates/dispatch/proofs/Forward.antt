@@ -13,21 +13,23 @@ use Rattle.tasks.proofs.Bools.{clash, both}
 use Rattle.plans.specs.Pieces.{taskOf, pieceOf}
 use Rattle.shapes.specs.Shape.{isLast}
 use Rattle.plans.specs.declared.Plan.{Plan}
-use Rattle.dispatch.specs.Jobs.{jobOf, isActive, onceReleased, names}
-use Rattle.dispatch.specs.Rules.{endedJob, finishedJob, finish, turnsLate, markedJob, markLate, releasedJob, runsNow, ranJob, agedJob}
-use Rattle.dispatch.specs.Sets.{member}
-use Rattle.dispatch.specs.Tick.{nextState, tick}
-use Rattle.dispatch.specs.WellMade.{wellMade}
-use Rattle.dispatch.specs.declared.Job.{Job}
-use Rattle.dispatch.specs.declared.Phase.{Phase}
-use Rattle.dispatch.specs.declared.Phase.the-variants.{Never, Active, Ended}
-use Rattle.dispatch.specs.declared.State.{State}
-use Rattle.dispatch.specs.declared.Tasks.{Tasks}
+use Rattle.jobs.specs.Jobs.{isActive, onceReleased, names}
+use Rattle.rules.specs.States.{jobOf, wellMade}
+use Rattle.rules.specs.Rules.{endedJob, finishedJob, finish, turnsLate, markedJob, markLate, releasedJob, runsNow, ranJob, agedJob}
+use Rattle.jobs.specs.Sets.{member}
+use Rattle.rules.specs.Advance.{nextState}
+use Rattle.dispatch.specs.Tick.{tick}
+use Rattle.jobs.specs.declared.Job.{Job}
+use Rattle.jobs.specs.declared.Phase.{Phase}
+use Rattle.jobs.specs.declared.Phase.the-variants.{Never, Active, Ended}
+use Rattle.rules.specs.declared.State.{State}
+use Rattle.jobs.specs.declared.Tasks.{Tasks}
 use Rattle.dispatch.proofs.Alone.{runOf, Named, named}
-use Rattle.dispatch.proofs.Checked.{Good, good, taken, cores-rise}
+use Rattle.rules.proofs.Checked.{Good, good, cores-rise}
+use Rattle.dispatch.proofs.Checked.{taken}
 use Rattle.dispatch.proofs.Kept.{ready, next-job, by-judged, accepted-state}
-use Rattle.dispatch.proofs.Sitting.{sits}
-use Rattle.dispatch.proofs.Steps.{finish-in, mark-in, release-in, made-all, finish-all, mark-all, release-all}
+use Rattle.rules.proofs.Sitting.{sits}
+use Rattle.rules.proofs.Steps.{finish-in, mark-in, release-in, made-all, finish-all, mark-all, release-all}
 
 -- ---- one job: if it is active after a rule that does not release it, it was active before and its piece was no later
 abbrev Before : Job → Job → Type 0

@@ -1,39 +1,44 @@
 -- The walks that judge the two sets: what is wrong with each task, and the lowest member of a set that is wrong.
 use mathlib.Core.Path.{_≡_, refl, sym, ap, _∙_}
-use mathlib.Core.Bool.{Bool, true, false, not, _&&_, _||_, cond}
+use mathlib.Core.Bool.{Bool, true, false, not, _&&_, cond}
 use mathlib.Core.List.{List}
 use mathlib.Core.Logic.{_⊎_, inl, inr}
 use Prim.Native.Nat.{ℕ, _+_, _≤_, _<_, min}
 use native.Mathlib.Decide.{ℕ-discrete, decLt}
 use native.Mathlib.Omega.{arith}
-use lib.Dec.{ltb, eqb}
+use lib.Dec.{leb, ltb, eqb}
 use lib.ListN.{getD, set}
-use borrow.Author.Tests.{lt-ltb, le-ltb, eq-eqb, ne-eqb}
+use borrow.Author.Tests.{le-leb, lt-leb, lt-ltb, le-ltb, eq-eqb, ne-eqb}
 use Rattle.tasks.specs.Below.{any, first, tabulate, padded}
 use Rattle.tasks.specs.Tables.{noTask, taskNo}
 use Rattle.tasks.specs.declared.Answer.the-variants.{Accepted, Refused}
 use Rattle.tasks.specs.declared.Refusal.{Refusal}
 use Rattle.tasks.specs.declared.Task.{Task}
 use Rattle.tasks.specs.declared.TaskNo.{TaskNo}
-use Rattle.tasks.proofs.Below.{any-more, any-none, first-holds, first-none, first-before, first-is, first-same}
+use Rattle.tasks.proofs.Below.{any-more, any-same, any-none, first-holds, first-none, first-before, first-is, first-same}
 use Rattle.tasks.proofs.Bools.{either, not-second}
 use Rattle.tasks.proofs.Padded.{tabulate-at, padded-in}
 use Rattle.tasks.proofs.Tabulate.{tabulate-same, tabulate-turn}
 use Rattle.plans.specs.Pieces.{taskOf}
 use Rattle.plans.specs.declared.Plan.{Plan}
-use Rattle.dispatch.specs.Jobs.{noJob, noRun, jobOf, byRunner, runningTask, names, isActive, onceReleased}
+use Rattle.jobs.specs.Jobs.{noJob, noRun, names, runnerNo, isActive, onceReleased}
+use Rattle.rules.specs.States.{jobOf, lastOf}
 use Rattle.dispatch.specs.Refusing.{notRun, tooSoon, stillActive, lowest}
-use Rattle.dispatch.specs.Rules.{eachJob, endedJob, finishedJob, finish}
-use Rattle.dispatch.specs.Sets.{member}
-use Rattle.dispatch.specs.declared.CoreRun.{CoreRun}
-use Rattle.dispatch.specs.declared.Job.{Job}
-use Rattle.dispatch.specs.declared.Phase.{Phase}
-use Rattle.dispatch.specs.declared.Phase.the-variants.{Never, Active, Ended}
-use Rattle.dispatch.specs.declared.Runner.{Runner}
-use Rattle.dispatch.specs.declared.State.{State}
-use Rattle.dispatch.specs.declared.Tasks.{Tasks}
-use Rattle.dispatch.proofs.Steps.{finish-out}
-use Rattle.dispatch.proofs.Walks.{tabulated, and-one, or-none, or-one, running, not-running}
+use Rattle.rules.specs.Rules.{eachJob, endedJob, finishedJob, finish}
+use Rattle.jobs.specs.Sets.{member}
+use Rattle.jobs.specs.declared.CoreRun.{CoreRun}
+use Rattle.jobs.specs.declared.Job.{Job}
+use Rattle.jobs.specs.declared.Phase.{Phase}
+use Rattle.jobs.specs.declared.Phase.the-variants.{Never, Active, Ended}
+use Rattle.rules.specs.declared.State.{State}
+use Rattle.jobs.specs.declared.Tasks.{Tasks}
+use Rattle.rules.proofs.Steps.{finish-out}
+use Rattle.jobs.proofs.Numbers.{named-no}
+use Rattle.jobs.proofs.Walks.{tabulated, or-none, or-one}
+
+and-one : (a : Bool) → a && true ≡ a
+and-one true = refl
+and-one false = refl
 
 -- a list that has what f gives below n and is padded with what f gives past n is f's table
 padded-all : {A : Type 0} (size n : ℕ) (empty : A) (g f : ℕ → A) → ((t : ℕ) → t < n → g t ≡ f t) → ((t : ℕ) → n ≤ t → empty ≡ f t) → padded size n empty g ≡ tabulate size f
@@ -46,34 +51,33 @@ padded-all size n empty g f w h = tabulate-same size (λ t. cond (ltb t n) (g t)
 
 -- one core more is one task more that ran, or none
 module _ (count : ℕ) (last : List CoreRun) where
-  abbrev ranOn : ℕ → Runner
-  ranOn x = getD last x noRun .runner
+  -- what ran on core x, as a number
+  abbrev ranOn : ℕ → ℕ
+  ranOn x = runnerNo (getD last x noRun .runner)
 
   -- refusal 10, only the first x cores being looked at
   abbrev pub notRunOn : ℕ → ℕ → Bool
-  notRunOn x t = not (ltb t count && any x (λ y. names t (ranOn y)))
+  notRunOn x t = not (ltb t count && any x (λ y. eqb (ranOn y) t))
 
-  pub none-run : (t : ℕ) → t < 256 → true ≡ notRunOn 0 t
+  pub none-run : (t : ℕ) → t < 257 → true ≡ notRunOn 0 t
   unfolding any
   none-run t l = rw (not-second (ltb t count) {b = false} refl)
 
-  same-run : (k a : Bool) {b : Bool} → b ≡ false → not (k && a) ≡ not (k && (a || b))
-  same-run k a h = ap (λ (z : Bool). not (k && z)) (or-none a h)
+  not-below : (t : ℕ) → leb count t ≡ not (ltb t count && true)
+  not-below t = go (decLt t count)
+    where
+      go : Dec (t < count) → leb count t ≡ not (ltb t count && true)
+      go (yes b) = rw (lt-leb count t b, lt-ltb t count b)
+      go (no b) = rw (le-leb count t (omega arith), le-ltb t count (omega arith))
 
-  run-here : (k a b : Bool) → not (k && a) && not (b && k) ≡ not (k && (a || b))
-  run-here false a b = rw (not-second b {b = false} refl)
-  run-here true true b = refl
-  run-here true false true = refl
-  run-here true false false = refl
+  pub run-more : (xs : List Bool) (x t : ℕ) → xs ≡ tabulate 257 (notRunOn x) → t ≡ ranOn x → t < 257 → set xs t (leb count t) ≡ tabulate 257 (notRunOn (x + 1))
+  run-more xs x t e q l =
+      tabulate-turn 257 (notRunOn x) (notRunOn (x + 1)) xs t (leb count t) e l
+      (rw (any-more, ← or-one (any x (λ y. eqb (ranOn y) t)) (eq-eqb (ranOn x) t (sym q))) (not-below t))
+      (λ i d. rw any-more (ap (λ (z : Bool). not (ltb i count && z)) (or-none (any x (λ y. eqb (ranOn y) i)) (ne-eqb (ranOn x) i (λ b. d (sym b ∙ sym q))))))
 
-  pub run-more : (xs : List Bool) (x t : ℕ) (on v : Bool) → xs ≡ tabulate 256 (notRunOn x) → t ≡ runningTask (ranOn x) → t < 256 → on ≡ byRunner (ranOn x) false (λ t. true) → v ≡ getD xs t false && not (on && ltb t count) → set xs t v ≡ tabulate 256 (notRunOn (x + 1))
-  run-more xs x t on v e q l o w =
-      tabulate-turn 256 (notRunOn x) (notRunOn (x + 1)) xs t v e l
-      (w ∙ rw (o, q, running (ranOn x), any-more, ← tabulated 256 (notRunOn x) xs (runningTask (ranOn x)) false e (rw q at l)) (run-here (ltb (runningTask (ranOn x)) count) (any x (λ y. names (runningTask (ranOn x)) (ranOn y))) (names (runningTask (ranOn x)) (ranOn x))))
-      (λ i d. rw any-more (same-run (ltb i count) (any x (λ y. names i (ranOn y))) (not-running (ranOn x) i (λ b. d (b ∙ sym q)))))
-
-  pub run-all : (p : Plan) (s : State) → p .count ≡ count → s .last ≡ last → tabulate 256 (notRunOn (p .cores)) ≡ tabulate 256 (notRun p s)
-  run-all p s h l = rw (← h, ← l)
+  pub run-read : (p : Plan) (s : State) (xs : List Bool) → p .count ≡ count → s .last ≡ last → xs ≡ tabulate 257 (notRunOn (p .cores)) → (t : ℕ) → t < 256 → getD xs t false ≡ notRun p s t
+  run-read p s xs h l e t b = rw (e, tabulate-at 257 (notRunOn (p .cores)) t false (omega arith), ← h, ← l, any-same (p .cores) (λ y. eqb (runnerNo (lastOf s y)) t) (λ y. names t (lastOf s y)) (λ y k. named-no (lastOf s y) t b))
 
 -- refusals 11 and 12 after the finishes, told of the jobs before them
 module _ (p : Plan) (few : p .count ≤ 64) (s : State) (fs : Tasks) (t : ℕ) where
@@ -117,12 +121,12 @@ module _ (tasks : List Task) (jobs : List Job) where
   abbrev pub activeAt : List Bool → ℕ → Bool
   activeAt finished t = isActive (getD jobs t noJob .phase) && eqb (getD jobs t noJob .age) (getD tasks t noTask .period) && not (getD finished t false)
 
-module _ (p : Plan) (few : p .count ≤ 64) (s : State) (fs : Tasks) where
-  pub soon-all : padded 256 (p .count) true (soonAt (p .tasks) (s .jobs)) ≡ tabulate 256 (tooSoon p (finish p fs s))
-  soon-all = padded-all 256 (p .count) true _ _ (soon-in p few s fs) (soon-past p few s fs)
+module _ (p : Plan) (few : p .count ≤ 64) (s : State) (fs : Tasks) (xs : List Bool) where
+  pub soon-read : xs ≡ padded 257 (p .count) true (soonAt (p .tasks) (s .jobs)) → (t : ℕ) → t < 256 → getD xs t false ≡ tooSoon p (finish p fs s) t
+  soon-read e t b = sym (tabulated 257 (tooSoon p (finish p fs s)) xs t false (e ∙ padded-all 257 (p .count) true _ _ (soon-in p few s fs) (soon-past p few s fs)) (omega arith))
 
-  pub active-all : padded 256 (p .count) false (activeAt (p .tasks) (s .jobs) (tabulate 256 (member fs))) ≡ tabulate 256 (stillActive p (finish p fs s))
-  active-all = padded-all 256 (p .count) false _ _ (λ t l. rw (tabulate-at 256 (member fs) t false (omega (arith, few))) (active-in p few s fs t l)) (active-past p few s fs)
+  pub active-read : xs ≡ padded 257 (p .count) false (activeAt (p .tasks) (s .jobs) (tabulate 256 (member fs))) → (t : ℕ) → t < 256 → getD xs t false ≡ stillActive p (finish p fs s) t
+  active-read e t b = sym (tabulated 257 (stillActive p (finish p fs s)) xs t false (e ∙ padded-all 257 (p .count) false _ _ (λ k l. rw (tabulate-at 256 (member fs) k false (omega (arith, few))) (active-in p few s fs k l)) (active-past p few s fs)) (omega arith))
 
 pub first-past : (n : ℕ) (f : ℕ → Bool) → ((j : ℕ) → j < n → f j ≡ false) → n ≡ first n f
 first-past n f h = sym (first-none n f (any-none n f h))
@@ -164,9 +168,9 @@ module _ (m : ℕ → ℕ) (ws : List Bool) where
 abbrev wrong : Tasks → (ℕ → Bool) → ℕ → Bool
 wrong u bad k = member u k && bad k
 
-module _ (u : Tasks) (bad : ℕ → Bool) (say : TaskNo → Refusal) (ws : List Bool) (ew : ws ≡ tabulate 256 bad) (t : ℕ) (et : t ≡ first 256 (λ k. member u k && getD ws k false)) where
+module _ (u : Tasks) (bad : ℕ → Bool) (say : TaskNo → Refusal) (ws : List Bool) (ew : (k : ℕ) → k < 256 → getD ws k false ≡ bad k) (t : ℕ) (et : t ≡ first 256 (λ k. member u k && getD ws k false)) where
   is-first : t ≡ first 256 (wrong u bad)
-  is-first = et ∙ first-same 256 (λ k. member u k && getD ws k false) (wrong u bad) (λ k l. rw (ew, tabulate-at 256 bad k false l))
+  is-first = et ∙ first-same 256 (λ k. member u k && getD ws k false) (wrong u bad) (λ k l. rw (ew k l))
 
   -- below 256 it is the lowest that is refused
   pub lowest-refused : t < 256 → Refused (say (taskNo t)) ≡ lowest u bad say

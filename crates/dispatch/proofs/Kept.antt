@@ -3,9 +3,10 @@ use mathlib.Core.Path.{_≡_, refl, sym, ap, _∙_}
 use mathlib.Core.Bool.{true, false, not, _&&_, cond}
 use mathlib.Core.Logic.{_⊎_, inl, inr}
 use Prim.Native.Nat.{ℕ, _≤_, _<_}
+use native.Mathlib.Decide.{decLt}
 use native.Mathlib.Omega.{arith}
 use lib.Dec.{ltb}
-use lib.ListN.{replicate}
+use lib.ListN.{length, getD, replicate, length-replicate, getD-replicate, List·getD-eq-default}
 use borrow.Author.Tests.{lt-ltb, eq-eqb}
 use Rattle.tasks.specs.Below.{any}
 use Rattle.tasks.specs.declared.Answer.{Answer}
@@ -14,22 +15,24 @@ use Rattle.tasks.specs.declared.Refusal.{Refusal}
 use Rattle.tasks.proofs.Below.{all-make, any-none}
 use Rattle.tasks.proofs.Bools.{either, both, both-make}
 use Rattle.plans.specs.declared.Plan.{Plan}
-use Rattle.dispatch.specs.Jobs.{noJob, noRun, freshState, jobOf, lastOf, byRunner, isActive, onceReleased, names, CleanState}
+use Rattle.jobs.specs.Jobs.{noJob, noRun, byRunner, isActive, onceReleased, names}
+use Rattle.rules.specs.States.{freshState, jobOf, lastOf, CleanState, wellMade}
 use Rattle.dispatch.specs.Refusing.{judged}
-use Rattle.dispatch.specs.Rules.{eachJob, finish, markLate, release, standsOn, highest, runsNow, ranJob, run, countPreempted, agedJob, age}
-use Rattle.dispatch.specs.Tick.{nextState, answered, tick}
-use Rattle.dispatch.specs.WellMade.{jobWellMade, coreWellMade, wellMade}
-use Rattle.dispatch.specs.declared.CoreRun.{CoreRun}
-use Rattle.dispatch.specs.declared.Runner.{Runner}
-use Rattle.dispatch.specs.declared.Runner.the-variants.{Idle, Runs}
-use Rattle.dispatch.specs.declared.State.{State}
-use Rattle.dispatch.specs.declared.Tasks.{Tasks}
+use Rattle.rules.specs.Rules.{eachJob, finish, markLate, release, standsOn, highest, runsNow, ranJob, run, countPreempted, agedJob, age}
+use Rattle.rules.specs.Advance.{nextState}
+use Rattle.dispatch.specs.Tick.{answered, tick}
+use Rattle.made.specs.WellMade.{jobWellMade, coreWellMade}
+use Rattle.jobs.specs.declared.CoreRun.{CoreRun}
+use Rattle.jobs.specs.declared.Runner.{Runner}
+use Rattle.jobs.specs.declared.Runner.the-variants.{Idle, Runs}
+use Rattle.rules.specs.declared.State.{State}
+use Rattle.jobs.specs.declared.Tasks.{Tasks}
 use Rattle.dispatch.specs.declared.Ticked.{Ticked}
-use Rattle.dispatch.proofs.Checked.{accepted-not, Good, good, Taken, taken}
-use Rattle.dispatch.proofs.Highest.{runner-stands, runs-once}
-use Rattle.dispatch.proofs.Sitting.{aged-phase, stepped-once}
-use Rattle.dispatch.proofs.Walks.{replicate-at}
-use Rattle.dispatch.proofs.Steps.{each-out, run-in, age-in, count-in, run-last, run-past, made-all, finish-all, mark-all, release-all, run-all, count-all, age-all}
+use Rattle.rules.proofs.Checked.{accepted-not, Good, good}
+use Rattle.dispatch.proofs.Checked.{Taken, taken}
+use Rattle.rules.proofs.Highest.{runner-stands, runs-once}
+use Rattle.rules.proofs.Sitting.{aged-phase, stepped-once}
+use Rattle.rules.proofs.Steps.{each-out, run-in, age-in, count-in, run-last, run-past, made-all, finish-all, mark-all, release-all, run-all, count-all, age-all}
 
 -- the jobs when the runners are chosen
 abbrev pub ready : Plan → Tasks → Tasks → State → State
@@ -61,7 +64,7 @@ module _ (p : Plan) (g : Good p) (fs rs : Tasks) (s : State) where
   unfolding nextState
   next-jobs m = age-all p g _ (count-all p g (finish p fs s) _ (run-all p g _ (release-all p g rs _ (mark-all p g _ (finish-all p g fs s (made-all p g s m))))))
 
-  next-cores : (x : ℕ) → x < p .cores → coreWellMade p (nextState p fs rs s) x ≡ true
+  next-cores : (x : ℕ) → x < p .cores → coreWellMade p (nextState p fs rs s .jobs) (nextState p fs rs s .last) x ≡ true
   unfolding coreWellMade
   next-cores x l = go (lastOf (nextState p fs rs s) x) (sym (next-last x l))
     where
@@ -113,6 +116,14 @@ module _ (p : Plan) (s : State) (fs rs : Tasks) where
   accepted-made = by-judged (λ t. t .answer ≡ Accepted → (wellMade p s ≡ true) × (wellMade p (t .state) ≡ true) × CleanState p (t .state)) (λ r e h. accepted-not h) (λ e h. let k : Taken p s fs rs = taken p s fs rs e in let g : Good p = good p (k .plan) in (k .state, next-made p g fs rs s (k .state), next-clean p g fs rs s))
 
 -- ---- a fresh state is well made and clean, whatever the plan
+-- one value everywhere
+replicate-at : {A : Type 0} (n i : ℕ) (v : A) → getD (replicate n v) i v ≡ v
+replicate-at n i v = go (decLt i n)
+  where
+    go : Dec (i < n) → getD (replicate n v) i v ≡ v
+    go (yes l) = getD-replicate n i v v l
+    go (no l) = let b : length (replicate n v) ≤ i = omega (arith, length-replicate n v) in List·getD-eq-default (replicate n v) v b
+
 fresh-job : (i : ℕ) → jobOf freshState i ≡ noJob
 fresh-job i = replicate-at 64 i noJob
 

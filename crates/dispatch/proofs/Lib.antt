@@ -1,12 +1,5 @@
-pub mod Walks
-pub mod Highest
-pub mod Choosing
-pub mod Making
-pub mod Reading
 pub mod Judging
 pub mod Checked
-pub mod Sitting
-pub mod Steps
 pub mod Kept
 pub mod Alone
 pub mod Forward

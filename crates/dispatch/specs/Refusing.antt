@@ -7,17 +7,17 @@ use Rattle.tasks.specs.Tables.{taskNo, andThen}
 use Rattle.tasks.specs.declared.Answer.{Answer}
 use Rattle.tasks.specs.declared.Answer.the-variants.{Accepted, Refused}
 use Rattle.tasks.specs.declared.Refusal.{Refusal}
-use Rattle.tasks.specs.declared.Refusal.the-variants.{NotWellMade, NotRun, TooSoon, StillActive}
+use Rattle.tasks.specs.declared.Refusal.the-variants.{NotRun, TooSoon, StillActive}
 use Rattle.tasks.specs.declared.TaskNo.{TaskNo}
 use Rattle.plans.specs.Pieces.{taskOf}
-use Rattle.shapes.specs.Shape.{checkedPlan}
 use Rattle.plans.specs.declared.Plan.{Plan}
-use Rattle.dispatch.specs.Jobs.{jobOf, lastOf, isActive, onceReleased, names}
-use Rattle.dispatch.specs.Rules.{finish}
-use Rattle.dispatch.specs.Sets.{member}
-use Rattle.dispatch.specs.WellMade.{wellMade}
-use Rattle.dispatch.specs.declared.State.{State}
-use Rattle.dispatch.specs.declared.Tasks.{Tasks}
+use Rattle.jobs.specs.Jobs.{isActive, onceReleased, names}
+use Rattle.rules.specs.States.{jobOf, lastOf}
+use Rattle.rules.specs.Advance.{checked}
+use Rattle.rules.specs.Rules.{finish}
+use Rattle.jobs.specs.Sets.{member}
+use Rattle.rules.specs.declared.State.{State}
+use Rattle.jobs.specs.declared.Tasks.{Tasks}
 
 -- 10: not run in the tick before, or no such task
 abbrev pub notRun : Plan → State → ℕ → Bool
@@ -45,4 +45,4 @@ judgedSets p s fs rs =
     (andThen (lowest rs (tooSoon p after) TooSoon) (lowest rs (stillActive p after) StillActive))
 
 unfoldable pub judged : Plan → State → Tasks → Tasks → Answer
-judged p s fs rs = andThen (checkedPlan p) (andThen (cond (wellMade p s) Accepted (Refused NotWellMade)) (judgedSets p s fs rs))
+judged p s fs rs = andThen (checked p s) (judgedSets p s fs rs)

@@ -20,10 +20,11 @@ use Rattle.plans.specs.declared.Piece.{Piece}
 use Rattle.plans.specs.declared.Plan.{Plan}
 use Rattle.layout.specs.Layout.{planned}
 use Rattle.layout.specs.declared.Planned.{Planned}
-use Rattle.dispatch.specs.Jobs.{jobOf, lastOf, isActive, onceReleased, byRunner, freshState}
+use Rattle.jobs.specs.Jobs.{isActive, onceReleased, byRunner}
+use Rattle.rules.specs.States.{jobOf, lastOf, freshState}
 use Rattle.dispatch.specs.Tick.{tick}
-use Rattle.dispatch.specs.declared.State.{State}
-use Rattle.dispatch.specs.declared.Tasks.{Tasks}
+use Rattle.rules.specs.declared.State.{State}
+use Rattle.jobs.specs.declared.Tasks.{Tasks}
 
 -- (c, d, p)
 abbrev pub timed : ℕ → ℕ → ℕ → Task

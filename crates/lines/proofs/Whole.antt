@@ -4,11 +4,11 @@ use mathlib.Core.List.{List, _++_}
 use Prim.Native.Nat.{ℕ, zero, suc, _≤_}
 use native.Mathlib.Omega.{arith}
 use lib.ListN.{length, getD, length-append}
-use Rattle.dispatch.specs.Jobs.{noRun}
-use Rattle.dispatch.specs.declared.CoreRun.{CoreRun}
-use Rattle.dispatch.specs.declared.Runner.{Runner}
-use Rattle.dispatch.specs.declared.Runner.the-variants.{Idle, Runs}
-use Rattle.dispatch.specs.declared.State.{State}
+use Rattle.jobs.specs.Jobs.{noRun}
+use Rattle.jobs.specs.declared.CoreRun.{CoreRun}
+use Rattle.jobs.specs.declared.Runner.{Runner}
+use Rattle.jobs.specs.declared.Runner.the-variants.{Idle, Runs}
+use Rattle.rules.specs.declared.State.{State}
 use Rattle.dispatch.specs.declared.Ticked.{Ticked}
 use Rattle.texts.specs.Text.{textOf, bytesOf, ascii}
 use Rattle.texts.proofs.Whole.{whole, digits-few, rows-few}

@@ -3,11 +3,11 @@ use mathlib.Core.List.{List, [], _++_}
 use Prim.Native.Nat.{ℕ, zero, suc, min}
 use lib.ListN.{getD}
 use Rattle.writing.specs.Fields.{row}
-use Rattle.dispatch.specs.Jobs.{noRun}
-use Rattle.dispatch.specs.declared.CoreRun.{CoreRun}
-use Rattle.dispatch.specs.declared.Runner.{Runner}
-use Rattle.dispatch.specs.declared.Runner.the-variants.{Idle, Runs}
-use Rattle.dispatch.specs.declared.State.{State}
+use Rattle.jobs.specs.Jobs.{noRun}
+use Rattle.jobs.specs.declared.CoreRun.{CoreRun}
+use Rattle.jobs.specs.declared.Runner.{Runner}
+use Rattle.jobs.specs.declared.Runner.the-variants.{Idle, Runs}
+use Rattle.rules.specs.declared.State.{State}
 use Rattle.dispatch.specs.declared.Ticked.{Ticked}
 use Rattle.board.specs.Ran.{ranOf}
 use Rattle.board.specs.declared.Ran.{Ran}

@@ -4,9 +4,9 @@ ghost use Prim.Native.Nat.{min};
 ghost use Rattle.texts.specs.Text.{puts};
 ghost use Rattle.lines.specs.Lines.{gapText, runnerText, runsText, ranText, totalsText};
 use board::Ran;
-use dispatch::CoreRun;
-use dispatch::Runner;
-use dispatch::State;
+use jobs::CoreRun;
+use jobs::Runner;
+use rules::State;
 use tasks::Answer;
 use texts::Text;
 

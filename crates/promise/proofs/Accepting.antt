@@ -13,12 +13,13 @@ use Rattle.tasks.specs.declared.TaskNo.{TaskNo}
 use Rattle.shapes.specs.Shape.{checkedPlan}
 use Rattle.plans.specs.declared.Plan.{Plan}
 use Rattle.dispatch.specs.Refusing.{notRun, tooSoon, stillActive, lowest, judgedSets, judged}
-use Rattle.dispatch.specs.Rules.{finish}
-use Rattle.dispatch.specs.Sets.{member}
-use Rattle.dispatch.specs.WellMade.{wellMade}
-use Rattle.dispatch.specs.declared.State.{State}
-use Rattle.dispatch.specs.declared.Tasks.{Tasks}
-use Rattle.dispatch.proofs.Checked.{accepted-not, both-accepted, Taken, taken}
+use Rattle.rules.specs.Rules.{finish}
+use Rattle.jobs.specs.Sets.{member}
+use Rattle.rules.specs.States.{wellMade}
+use Rattle.rules.specs.declared.State.{State}
+use Rattle.jobs.specs.declared.Tasks.{Tasks}
+use Rattle.rules.proofs.Checked.{accepted-not, both-accepted}
+use Rattle.dispatch.proofs.Checked.{Taken, taken}
 
 no-refusal : (b : Bool) (r : Refusal) (a : Answer) → cond b (Refused r) a ≡ Accepted → b ≡ false
 no-refusal true r a h = accepted-not h

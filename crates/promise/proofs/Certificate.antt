@@ -8,7 +8,7 @@ use Rattle.shapes.proofs.InShape.{accepted-plan}
 use Rattle.plans.specs.Pieces.{pieceOf, earlier}
 use Rattle.shapes.specs.Shape.{isLast, checkedPlan}
 use Rattle.plans.specs.declared.Plan.{Plan}
-use Rattle.dispatch.specs.Jobs.{jobOf}
+use Rattle.rules.specs.States.{jobOf}
 use Rattle.schedules.specs.Certificate.{Certificate}
 use Rattle.promise.specs.Demand3.{reached}
 use Rattle.schedules.specs.Model.{Model, Sound, active}

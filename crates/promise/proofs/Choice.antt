@@ -13,11 +13,12 @@ use Rattle.plans.proofs.Rank.{above-chain, above-total}
 use Rattle.plans.specs.Pieces.{taskOf}
 use Rattle.plans.specs.Rank.{above}
 use Rattle.plans.specs.declared.Plan.{Plan}
-use Rattle.dispatch.specs.Jobs.{jobOf, isActive, names}
-use Rattle.dispatch.specs.Rules.{pieceAt, standsOn, beats, highest}
-use Rattle.dispatch.specs.declared.Runner.{Runner}
-use Rattle.dispatch.specs.declared.Runner.the-variants.{Idle, Runs}
-use Rattle.dispatch.specs.declared.State.{State}
+use Rattle.jobs.specs.Jobs.{isActive, names}
+use Rattle.rules.specs.States.{jobOf}
+use Rattle.rules.specs.Rules.{pieceAt, standsOn, beats, highest}
+use Rattle.jobs.specs.declared.Runner.{Runner}
+use Rattle.jobs.specs.declared.Runner.the-variants.{Idle, Runs}
+use Rattle.rules.specs.declared.State.{State}
 
 module _ (p : Plan) (s : State) where
   -- of the first k tasks, t is at a piece on core x, and that is above each other that one is at there

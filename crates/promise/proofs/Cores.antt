@@ -11,14 +11,15 @@ use Rattle.tasks.proofs.Bools.{clash}
 use Rattle.shapes.proofs.InShape.{GoodPlan, accepted-plan}
 use Rattle.plans.specs.Pieces.{pieceOf}
 use Rattle.plans.specs.declared.Plan.{Plan}
-use Rattle.dispatch.specs.Jobs.{noRun, jobOf, lastOf, isActive, names}
-use Rattle.dispatch.specs.Rules.{pieceAt}
-use Rattle.dispatch.specs.Sets.{member}
-use Rattle.dispatch.specs.declared.CoreRun.{CoreRun}
-use Rattle.dispatch.specs.declared.Job.{Job}
-use Rattle.dispatch.specs.declared.Phase.{Phase}
-use Rattle.dispatch.specs.declared.Phase.the-variants.{Never, Active, Ended}
-use Rattle.dispatch.specs.declared.State.{State}
+use Rattle.jobs.specs.Jobs.{noRun, isActive, names}
+use Rattle.rules.specs.States.{jobOf, lastOf}
+use Rattle.rules.specs.Rules.{pieceAt}
+use Rattle.jobs.specs.Sets.{member}
+use Rattle.jobs.specs.declared.CoreRun.{CoreRun}
+use Rattle.jobs.specs.declared.Job.{Job}
+use Rattle.jobs.specs.declared.Phase.{Phase}
+use Rattle.jobs.specs.declared.Phase.the-variants.{Never, Active, Ended}
+use Rattle.rules.specs.declared.State.{State}
 use Rattle.promise.specs.Demand3.{OneCore, CoresRise}
 use Rattle.schedules.specs.Model.{Stage, never, active, ended, older, onward, finish, run}
 use Rattle.promise.specs.Requests.{Request, asked, isAccepted, after, tally, namedOn, releases}

@@ -15,7 +15,7 @@ use Rattle.shapes.specs.Shape.{checkedPlan}
 use Rattle.plans.specs.declared.Plan.{Plan}
 use Rattle.layout.proofs.Certified.{planned-cores, planned-count, planned-tasks, planned-shape, planned-certified}
 use Rattle.layout.specs.Layout.{planned}
-use Rattle.dispatch.specs.Jobs.{freshState}
+use Rattle.rules.specs.States.{freshState}
 use Rattle.schedules.specs.Certificate.{Certificate, Timely}
 use Rattle.promise.specs.Demand3.{Demand3, PlanOf}
 use Rattle.promise.specs.Requests.{after}

@@ -22,16 +22,17 @@ use Rattle.layout.specs.Layout.{start, place, layFirst, planned}
 use Rattle.layout.specs.Limit.{allowance, limitOf}
 use Rattle.layout.specs.Shared.{giveShare, close, shareFrom}
 use Rattle.layout.specs.Whole.{put, takesWhole}
-use Rattle.dispatch.specs.Jobs.{freshState}
+use Rattle.rules.specs.States.{freshState, wellMade}
 use Rattle.dispatch.specs.Refusing.{judged, judgedSets, lowest}
-use Rattle.dispatch.specs.Rules.{eachJob, finish, markLate, release, run, age, countPreempted, preempted, highest, firstPiece}
-use Rattle.dispatch.specs.Sets.{member}
-use Rattle.dispatch.specs.Tick.{nextState, tick}
-use Rattle.dispatch.specs.WellMade.{wellMade, coreWellMade, jobWellMade}
-use Rattle.dispatch.specs.declared.Runner.{Runner}
-use Rattle.dispatch.specs.declared.Runner.the-variants.{Runs}
-use Rattle.dispatch.specs.declared.State.{State}
-use Rattle.dispatch.specs.declared.Tasks.{Tasks}
+use Rattle.dispatch.specs.Tick.{tick}
+use Rattle.rules.specs.Rules.{eachJob, finish, markLate, release, run, age, countPreempted, preempted, highest, firstPiece}
+use Rattle.jobs.specs.Sets.{member}
+use Rattle.rules.specs.Advance.{checked, nextState}
+use Rattle.made.specs.WellMade.{coreWellMade, jobWellMade}
+use Rattle.jobs.specs.declared.Runner.{Runner}
+use Rattle.jobs.specs.declared.Runner.the-variants.{Runs}
+use Rattle.rules.specs.declared.State.{State}
+use Rattle.jobs.specs.declared.Tasks.{Tasks}
 use Rattle.promise.specs.Demand3.{Demand3}
 use Rattle.promise.specs.Requests.{Request, asked, namedOn}
 use Rattle.promise.proofs.Demand3.{no-job-is-late}
@@ -114,5 +115,5 @@ row a b c = Runs (taskNo a) ∷ Runs (taskNo b) ∷ Runs (taskNo c) ∷ []
 -- Task 4 is released when task 3 comes to its last share, on core 1, and holds it back there for two ticks.
 held-back : rows sixPlan freshState (releasing (0 ∷ 1 ∷ 2 ∷ 3 ∷ []) ∷ replicate 3 (releasing []) ++ releasing (4 ∷ []) ∷ replicate 5 (releasing []))
     ≡ replicate 4 (row 3 1 2) ++ replicate 2 (row 0 4 2) ++ row 0 3 4 ∷ row 0 3 4 ∷ row 0 1 4 ∷ row 0 1 4 ∷ []
-unfolding sixPlan task piece rows tasksOf releasing row tick nextState judged judgedSets lowest wellMade coreWellMade jobWellMade finish markLate release run age countPreempted preempted eachJob highest firstPiece member padded tabulate count checkedPlan checkedTasks shape pieceFits inOrder follows isLast costs above all any first sum
+unfolding sixPlan task piece rows tasksOf releasing row tick nextState checked judged judgedSets lowest wellMade coreWellMade jobWellMade finish markLate release run age countPreempted preempted eachJob highest firstPiece member padded tabulate count checkedPlan checkedTasks shape pieceFits inOrder follows isLast costs above all any first sum
 held-back = refl

@@ -16,17 +16,18 @@ use Rattle.plans.specs.Pieces.{taskOf, pieceOf}
 use Rattle.plans.specs.Rank.{above}
 use Rattle.plans.specs.declared.Piece.{Piece}
 use Rattle.plans.specs.declared.Plan.{Plan}
-use Rattle.dispatch.specs.Jobs.{jobOf, isActive, onceReleased, names}
-use Rattle.dispatch.specs.Rules.{pieceAt, standsOn, highest, runsNow, finish}
-use Rattle.dispatch.specs.Sets.{member}
-use Rattle.dispatch.specs.Tick.{nextState}
-use Rattle.dispatch.specs.declared.Job.{Job}
-use Rattle.dispatch.specs.declared.Phase.{Phase}
-use Rattle.dispatch.specs.declared.Phase.the-variants.{Never, Active, Ended}
-use Rattle.dispatch.specs.declared.Runner.{Runner}
-use Rattle.dispatch.specs.declared.Runner.the-variants.{Idle, Runs}
-use Rattle.dispatch.specs.declared.State.{State}
-use Rattle.dispatch.specs.declared.Tasks.{Tasks}
+use Rattle.jobs.specs.Jobs.{isActive, onceReleased, names}
+use Rattle.rules.specs.States.{jobOf}
+use Rattle.rules.specs.Rules.{pieceAt, standsOn, highest, runsNow, finish}
+use Rattle.jobs.specs.Sets.{member}
+use Rattle.rules.specs.Advance.{nextState}
+use Rattle.jobs.specs.declared.Job.{Job}
+use Rattle.jobs.specs.declared.Phase.{Phase}
+use Rattle.jobs.specs.declared.Phase.the-variants.{Never, Active, Ended}
+use Rattle.jobs.specs.declared.Runner.{Runner}
+use Rattle.jobs.specs.declared.Runner.the-variants.{Idle, Runs}
+use Rattle.rules.specs.declared.State.{State}
+use Rattle.jobs.specs.declared.Tasks.{Tasks}
 use Rattle.schedules.specs.Model as model
 use Rattle.schedules.specs.Model.{Stage, ended, at, May}
 use Rattle.schedules.specs.Moments.{held, goes, goesAt, finished, released, ticked, tick, Accepted, Step}

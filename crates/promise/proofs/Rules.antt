@@ -13,17 +13,18 @@ use Rattle.shapes.proofs.InShape.{GoodPlan}
 use Rattle.plans.specs.Pieces.{taskOf, pieceOf}
 use Rattle.shapes.specs.Shape.{isLast}
 use Rattle.plans.specs.declared.Plan.{Plan}
-use Rattle.dispatch.specs.Jobs.{noJob, noRun, jobOf, lastOf, isActive}
-use Rattle.dispatch.specs.Rules.{eachJob, endedJob, finishedJob, turnsLate, markedJob, firstPiece, releasedJob, runsNow, ranJob, agedJob, chosen, highest, finish, markLate, release, run, age, countPreempted}
-use Rattle.dispatch.specs.Sets.{member}
-use Rattle.dispatch.specs.Tick.{nextState}
-use Rattle.dispatch.specs.WellMade.{ageFits, pieceExists, jobWellMade, wellMade}
-use Rattle.dispatch.specs.declared.Job.{Job}
-use Rattle.dispatch.specs.declared.Phase.{Phase}
-use Rattle.dispatch.specs.declared.Phase.the-variants.{Never, Active, Ended}
-use Rattle.dispatch.specs.declared.Runner.the-variants.{Idle}
-use Rattle.dispatch.specs.declared.State.{State}
-use Rattle.dispatch.specs.declared.Tasks.{Tasks}
+use Rattle.jobs.specs.Jobs.{noJob, noRun, isActive}
+use Rattle.rules.specs.States.{jobOf, lastOf, wellMade}
+use Rattle.rules.specs.Rules.{eachJob, endedJob, finishedJob, turnsLate, markedJob, firstPiece, releasedJob, runsNow, ranJob, agedJob, chosen, highest, finish, markLate, release, run, age, countPreempted}
+use Rattle.jobs.specs.Sets.{member}
+use Rattle.rules.specs.Advance.{nextState}
+use Rattle.made.specs.WellMade.{ageFits, pieceExists, jobWellMade}
+use Rattle.jobs.specs.declared.Job.{Job}
+use Rattle.jobs.specs.declared.Phase.{Phase}
+use Rattle.jobs.specs.declared.Phase.the-variants.{Never, Active, Ended}
+use Rattle.jobs.specs.declared.Runner.the-variants.{Idle}
+use Rattle.rules.specs.declared.State.{State}
+use Rattle.jobs.specs.declared.Tasks.{Tasks}
 use Rattle.schedules.specs.Model as model
 use Rattle.promise.specs.View.{stageOf, modelOf}
 use Rattle.promise.proofs.Sound.{first-piece}

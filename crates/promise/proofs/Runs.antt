@@ -16,16 +16,18 @@ use Rattle.tasks.specs.declared.Refusal.{Refusal}
 use Rattle.shapes.proofs.InShape.{GoodPlan}
 use Rattle.plans.specs.Pieces.{taskOf, pieceOf}
 use Rattle.plans.specs.declared.Plan.{Plan}
-use Rattle.dispatch.specs.Jobs.{noJob, noRun, jobOf, names, freshState}
+use Rattle.jobs.specs.Jobs.{noJob, noRun, names}
+use Rattle.rules.specs.States.{jobOf, freshState}
 use Rattle.dispatch.specs.Refusing.{judged}
-use Rattle.dispatch.specs.Rules.{eachJob, total, turnsLate, finish, markLate, release, run, age, countPreempted}
-use Rattle.dispatch.specs.Sets.{member}
-use Rattle.dispatch.specs.Tick.{nextState, answered, tick}
-use Rattle.dispatch.specs.declared.CoreRun.{CoreRun}
-use Rattle.dispatch.specs.declared.Phase.{Phase}
-use Rattle.dispatch.specs.declared.Phase.the-variants.{Never, Active, Ended}
-use Rattle.dispatch.specs.declared.State.{State}
-use Rattle.dispatch.specs.declared.Tasks.{Tasks}
+use Rattle.dispatch.specs.Tick.{answered, tick}
+use Rattle.rules.specs.Rules.{eachJob, total, turnsLate, finish, markLate, release, run, age, countPreempted}
+use Rattle.jobs.specs.Sets.{member}
+use Rattle.rules.specs.Advance.{nextState}
+use Rattle.jobs.specs.declared.CoreRun.{CoreRun}
+use Rattle.jobs.specs.declared.Phase.{Phase}
+use Rattle.jobs.specs.declared.Phase.the-variants.{Never, Active, Ended}
+use Rattle.rules.specs.declared.State.{State}
+use Rattle.jobs.specs.declared.Tasks.{Tasks}
 use Rattle.dispatch.specs.declared.Ticked.{Ticked}
 use Rattle.schedules.specs.Certificate.{Certificate, Timely}
 use Rattle.promise.specs.Demand3.{reached, Due}

@@ -11,7 +11,7 @@ use Rattle.plans.proofs.Costs.{costs-own}
 use Rattle.plans.specs.Pieces.{taskOf, pieceOf, costs}
 use Rattle.shapes.specs.Shape.{isLast}
 use Rattle.plans.specs.declared.Plan.{Plan}
-use Rattle.dispatch.specs.Rules.{firstPiece}
+use Rattle.rules.specs.Rules.{firstPiece}
 use Rattle.schedules.specs.Model.{Sound}
 use Rattle.promise.specs.View.{modelOf}
 

@@ -7,12 +7,12 @@ use Rattle.tasks.specs.Below.{any}
 use Rattle.tasks.specs.declared.Answer.{Answer}
 use Rattle.tasks.specs.declared.Answer.the-variants.{Accepted, Refused}
 use Rattle.plans.specs.declared.Plan.{Plan}
-use Rattle.dispatch.specs.Jobs.{noRun, names}
-use Rattle.dispatch.specs.Sets.{member}
+use Rattle.jobs.specs.Jobs.{noRun, names}
+use Rattle.jobs.specs.Sets.{member}
 use Rattle.dispatch.specs.Tick.{tick}
-use Rattle.dispatch.specs.declared.Runner.{Runner}
-use Rattle.dispatch.specs.declared.State.{State}
-use Rattle.dispatch.specs.declared.Tasks.{Tasks}
+use Rattle.jobs.specs.declared.Runner.{Runner}
+use Rattle.rules.specs.declared.State.{State}
+use Rattle.jobs.specs.declared.Tasks.{Tasks}
 use Rattle.dispatch.specs.declared.Ticked.{Ticked}
 
 -- what one tick is asked for: any two sets of tasks

@@ -20,7 +20,7 @@ use Rattle.lines.specs.Lines.{ranText, tickedText}
 use Rattle.texts.specs.Text.{noText, puts, textOf}
 use Rattle.texts.specs.declared.Text.{Text}
 use Rattle.texts.proofs.Putting.{puts-parts}
-use Rattle.dispatch.specs.declared.State.{State}
+use Rattle.rules.specs.declared.State.{State}
 use Rattle.reading.specs.Reading.{further}
 use Rattle.replays.specs.Requests.{requestSize, requestAnswer}
 use Rattle.replays.specs.Replay.{placeAt, tickAsked, Standing, next, played, wholes, atHand, standing, playedOn, lastAnswer}

@@ -14,7 +14,7 @@ use Rattle.tasks.proofs.Padded.{padded-in, padded-length}
 use Rattle.tasks.specs.declared.Answer.{Answer}
 use Rattle.tasks.specs.declared.Answer.the-variants.{Accepted, Refused}
 use Rattle.plans.specs.declared.Plan.{Plan}
-use Rattle.dispatch.specs.declared.State.{State}
+use Rattle.rules.specs.declared.State.{State}
 use Rattle.lines.specs.Lines.{totalsText}
 use Rattle.texts.specs.Text.{textOf}
 use Rattle.reading.specs.Reading.{further, planRead}

@@ -12,9 +12,9 @@ use Rattle.tasks.specs.declared.Refusal.the-variants.{CutShort}
 use Rattle.plans.specs.declared.Plan.{Plan}
 use Rattle.reading.specs.Reading.{further, planRead}
 use Rattle.reading.specs.declared.ReadPlan.{ReadPlan}
-use Rattle.dispatch.specs.Jobs.{freshState}
+use Rattle.rules.specs.States.{freshState}
 use Rattle.dispatch.specs.Tick.{tick}
-use Rattle.dispatch.specs.declared.State.{State}
+use Rattle.rules.specs.declared.State.{State}
 use Rattle.dispatch.specs.declared.Ticked.{Ticked}
 use Rattle.lines.specs.Lines.{tickedText, totalsText}
 use Rattle.telling.specs.Telling.{answerText, refusalText}

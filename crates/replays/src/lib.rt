@@ -7,9 +7,9 @@ ghost use Rattle.replays.specs.Requests.{tasksAt, finishedIn, releasedIn
 ghost use Rattle.replays.specs.Replay.{wholes, start as begun, playedOn, lastAnswer};
 ghost use Rattle.replays.specs.Turns.{handed, shownOf, shotOf, shotAfter};
 use board::Ran;
-use dispatch::State;
-use dispatch::Tasks;
+use jobs::Tasks;
 use plans::Plan;
+use rules::State;
 use tasks::Answer;
 use tasks::Place;
 use tasks::Refusal;

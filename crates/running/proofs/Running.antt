@@ -3,8 +3,8 @@ use mathlib.Core.Path.{_≡_, refl, sym, ap, _∙_}
 use mathlib.Core.List.{List}
 use Prim.Native.Nat.{ℕ, zero, suc}
 use Rattle.plans.specs.declared.Plan.{Plan}
-use Rattle.dispatch.specs.Jobs.{freshState}
-use Rattle.dispatch.specs.declared.State.{State}
+use Rattle.rules.specs.States.{freshState}
+use Rattle.rules.specs.declared.State.{State}
 use Rattle.board.specs.Kept.{keptFor}
 use Rattle.writing.specs.Fields.{row}
 use Rattle.runs.specs.Allowed.{fullTick, stateAfter}

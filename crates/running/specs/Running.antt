@@ -4,7 +4,7 @@ use Prim.Native.Nat.{ℕ}
 use Rattle.plans.specs.declared.Plan.{Plan}
 use Rattle.writing.specs.Fields.{row}
 use Rattle.reading.specs.declared.ReadPlan.{ReadPlan}
-use Rattle.dispatch.specs.declared.State.{State}
+use Rattle.rules.specs.declared.State.{State}
 use Rattle.board.specs.Kept.{keptFor}
 use Rattle.board.specs.declared.Ran.{Ran}
 use Rattle.runs.specs.Allowed.{fullTick, stateAfter}

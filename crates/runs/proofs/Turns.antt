@@ -6,9 +6,9 @@ use native.Mathlib.Numerals.{add-one}
 use native.Mathlib.Omega.{arith}
 use lib.ListN.{replicate}
 use Rattle.plans.specs.declared.Plan.{Plan}
-use Rattle.dispatch.specs.Jobs.{freshState}
-use Rattle.dispatch.specs.declared.State.{State}
-use Rattle.dispatch.specs.declared.Tasks.{Tasks}
+use Rattle.rules.specs.States.{freshState}
+use Rattle.rules.specs.declared.State.{State}
+use Rattle.jobs.specs.declared.Tasks.{Tasks}
 use Rattle.board.specs.Kept.{keptFor}
 use Rattle.runs.specs.Allowed.{allowed, withTask, allowedBelow}
 use Rattle.runs.specs.Watched.{watchTick, watched}

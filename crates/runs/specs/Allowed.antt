@@ -6,10 +6,11 @@ use lib.ListN.{set, replicate}
 use Rattle.tasks.specs.Tables.{taskNo}
 use Rattle.plans.specs.Pieces.{taskOf}
 use Rattle.plans.specs.declared.Plan.{Plan}
-use Rattle.dispatch.specs.Jobs.{jobOf, byPhase, freshState}
+use Rattle.jobs.specs.Jobs.{byPhase}
+use Rattle.rules.specs.States.{jobOf, freshState}
 use Rattle.dispatch.specs.Tick.{tick}
-use Rattle.dispatch.specs.declared.State.{State}
-use Rattle.dispatch.specs.declared.Tasks.{Tasks}
+use Rattle.rules.specs.declared.State.{State}
+use Rattle.jobs.specs.declared.Tasks.{Tasks}
 use Rattle.dispatch.specs.declared.Ticked.{Ticked}
 
 -- ended or never released, and in the first case of age p

@@ -5,9 +5,10 @@ use Prim.Native.Nat.{ℕ, zero, suc, min, max}
 use lib.ListN.{getD, replicate}
 use Rattle.tasks.specs.Below.{any, padded}
 use Rattle.plans.specs.declared.Plan.{Plan}
-use Rattle.dispatch.specs.Jobs.{jobOf, freshState, names, noRun}
-use Rattle.dispatch.specs.declared.CoreRun.{CoreRun}
-use Rattle.dispatch.specs.declared.State.{State}
+use Rattle.jobs.specs.Jobs.{names, noRun}
+use Rattle.rules.specs.States.{jobOf, freshState}
+use Rattle.jobs.specs.declared.CoreRun.{CoreRun}
+use Rattle.rules.specs.declared.State.{State}
 use Rattle.dispatch.specs.declared.Ticked.{Ticked}
 use Rattle.runs.specs.Allowed.{fullTick}
 use Rattle.runs.specs.declared.Watched.{Watched}

@@ -3,8 +3,8 @@ use Prim.Native.Nat.{ℕ, min, max}
 use lib.ListN.{getD}
 use Rattle.tasks.specs.Below.{padded}
 use Rattle.plans.specs.declared.Plan.{Plan}
-use Rattle.dispatch.specs.declared.State.{State}
-use Rattle.dispatch.specs.declared.Tasks.{Tasks}
+use Rattle.rules.specs.declared.State.{State}
+use Rattle.jobs.specs.declared.Tasks.{Tasks}
 use Rattle.board.specs.Kept.{keptFor}
 use Rattle.board.specs.declared.Ran.{Ran}
 use Rattle.runs.specs.Allowed.{noTasks, allowedSet}

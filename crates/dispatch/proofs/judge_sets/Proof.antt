@@ -2,22 +2,19 @@ use mathlib.Core.Path.{_≡_, refl}
 use borrow.Author.Needs.{needs}
 use Rattle.tasks.specs.declared.Answer.the-variants.{Accepted}
 use Rattle.tasks.specs.declared.Refusal.the-variants.{NotRun, TooSoon, StillActive}
+use Rattle.rules.specs.Rules.{finish}
 use Rattle.dispatch.specs.Refusing.{notRun, tooSoon, stillActive, lowest, judgedSets}
-use Rattle.dispatch.specs.Rules.{finish}
 use Rattle.dispatch.proofs.Judging.{lowest-refused, lowest-accepted}
 use Rattle.dispatch.proofs.judge_sets.Statement.{statement}
 use Rattle.dispatch.proofs.judge_sets.Tie as tie
 
 -- every finished task ran in the tick before
-ran : (c : tie.Else1) → let a = c .before .before .before .before .before .before .before .args in Accepted ≡ lowest (a .finished) (notRun (a .plan) (a .state)) (λ t. NotRun t)
-ran c = let b = c .before .before .before in let a = b .before .before .before .before .args in lowest-accepted (a .finished) (notRun (a .plan) (a .state)) (λ t. NotRun t) _ (c .before .before .not-run .ensures (a .plan) (a .state) refl refl refl) _ (c .before .lowest-wrong .ensures) (c .if1 .left)
+ran : (c : tie.Else1) → let a = c .before .before .before .before .before .before .args in Accepted ≡ lowest (a .finished) (notRun (a .plan) (a .state)) (λ t. NotRun t)
+ran c = let a = c .before .before .before .before .before .before .args in lowest-accepted (a .finished) (notRun (a .plan) (a .state)) (λ t. NotRun t) (c .before .before .not-run .result) (c .before .before .not-run .ensures (a .plan) (a .state) refl refl refl) _ (c .before .lowest-wrong .ensures) (c .if1 .left)
 
 -- no released task is too soon
-in-time : (c : tie.Else2) → let a = c .before .before .before .before .before .before .before .before .before .before .args in Accepted ≡ lowest (a .released) (tooSoon (a .plan) (finish (a .plan) (a .finished) (a .state))) (λ t. TooSoon t)
-in-time c = let m = c .before .before .before in let a = m .before .before .before .before .before .before .before .args in lowest-accepted (a .released) (tooSoon (a .plan) (finish (a .plan) (a .finished) (a .state))) (λ t. TooSoon t) _ (c .before .before .too-soon .ensures (a .plan) (a .state) (a .finished) refl refl refl) _ (c .before .lowest-wrong2 .ensures) (c .if2 .left)
-
-marks-requires : tie.Need-marks-requires
-marks-requires c κs = search needs
+in-time : (c : tie.Else2) → let a = c .before .before .before .before .before .before .before .before .before .args in Accepted ≡ lowest (a .released) (tooSoon (a .plan) (finish (a .plan) (a .finished) (a .state))) (λ t. TooSoon t)
+in-time c = let a = c .before .before .before .before .before .before .before .before .before .args in lowest-accepted (a .released) (tooSoon (a .plan) (finish (a .plan) (a .finished) (a .state))) (λ t. TooSoon t) (c .before .before .too-soon .result) (c .before .before .too-soon .ensures (a .plan) (a .state) (a .finished) refl refl refl) _ (c .before .lowest-wrong2 .ensures) (c .if2 .left)
 
 not-run-requires : tie.Need-not-run-requires
 not-run-requires c κs = search needs
@@ -25,15 +22,12 @@ not-run-requires c κs = search needs
 lowest-wrong-requires : tie.Need-lowest-wrong-requires
 lowest-wrong-requires c κs = search needs
 
-cast-t14 : tie.Need-cast-t14
-cast-t14 c = search needs
+cast-t13 : tie.Need-cast-t13
+cast-t13 c = search needs
 
 returns : tie.Need-returns
 unfolding judgedSets
-returns c =
-    let b = c .before .before .before in
-    let a = b .before .before .before .before .args in
-    rw (← lowest-refused (a .finished) (notRun (a .plan) (a .state)) (λ t. NotRun t) _ (c .before .before .not-run .ensures (a .plan) (a .state) refl refl refl) _ (c .before .lowest-wrong .ensures) (c .if1 .taken))
+returns c = let a = c .before .before .before .before .before .before .args in rw (← lowest-refused (a .finished) (notRun (a .plan) (a .state)) (λ t. NotRun t) (c .before .before .not-run .result) (c .before .before .not-run .ensures (a .plan) (a .state) refl refl refl) _ (c .before .lowest-wrong .ensures) (c .if1 .taken))
 
 too-soon-requires : tie.Need-too-soon-requires
 too-soon-requires c κs = search needs
@@ -41,15 +35,12 @@ too-soon-requires c κs = search needs
 lowest-wrong-requires-2 : tie.Need-lowest-wrong-requires-2
 lowest-wrong-requires-2 c κs = search needs
 
-cast-t17 : tie.Need-cast-t17
-cast-t17 c = search needs
+cast-t16 : tie.Need-cast-t16
+cast-t16 c = search needs
 
 returns-2 : tie.Need-returns-2
 unfolding judgedSets
-returns-2 c =
-    let m = c .before .before .before in
-    let a = m .before .before .before .before .before .before .before .args in
-    rw (← ran m, ← lowest-refused (a .released) (tooSoon (a .plan) (finish (a .plan) (a .finished) (a .state))) (λ t. TooSoon t) _ (c .before .before .too-soon .ensures (a .plan) (a .state) (a .finished) refl refl refl) _ (c .before .lowest-wrong2 .ensures) (c .if2 .taken))
+returns-2 c = let a = c .before .before .before .before .before .before .before .before .before .args in rw (← ran (c .before .before .before), ← lowest-refused (a .released) (tooSoon (a .plan) (finish (a .plan) (a .finished) (a .state))) (λ t. TooSoon t) (c .before .before .too-soon .result) (c .before .before .too-soon .ensures (a .plan) (a .state) (a .finished) refl refl refl) _ (c .before .lowest-wrong2 .ensures) (c .if2 .taken))
 
 still-active-requires : tie.Need-still-active-requires
 still-active-requires c κs = search needs
@@ -57,42 +48,31 @@ still-active-requires c κs = search needs
 lowest-wrong-requires-3 : tie.Need-lowest-wrong-requires-3
 lowest-wrong-requires-3 c κs = search needs
 
-cast-t20 : tie.Need-cast-t20
-cast-t20 c = search needs
+cast-t19 : tie.Need-cast-t19
+cast-t19 c = search needs
 
 returns-3 : tie.Need-returns-3
 unfolding judgedSets
-returns-3 c =
-    let e = c .before .before .before in
-    let m = e .before .before .before in
-    let b = m .before .before .before in
-    let a = b .before .before .before .before .args in
-    rw (← ran m, ← in-time e, ← lowest-refused (a .released) (stillActive (a .plan) (finish (a .plan) (a .finished) (a .state))) (λ t. StillActive t) _ (c .before .before .still-active .ensures (a .plan) (a .state) (a .finished) refl refl refl (b .marks .ensures)) _ (c .before .lowest-wrong3 .ensures) (c .if3 .taken))
+returns-3 c = let a = c .before .before .before .before .before .before .before .before .before .before .before .before .args in rw (← ran (c .before .before .before .before .before .before), ← in-time (c .before .before .before), ← lowest-refused (a .released) (stillActive (a .plan) (finish (a .plan) (a .finished) (a .state))) (λ t. StillActive t) (c .before .before .still-active .result) (c .before .before .still-active .ensures (a .plan) (a .state) refl refl refl) _ (c .before .lowest-wrong3 .ensures) (c .if3 .taken))
 
 returns-4 : tie.Need-returns-4
 unfolding judgedSets
-returns-4 c =
-    let e = c .before .before .before in
-    let m = e .before .before .before in
-    let b = m .before .before .before in
-    let a = b .before .before .before .before .args in
-    rw (← ran m, ← in-time e, ← lowest-accepted (a .released) (stillActive (a .plan) (finish (a .plan) (a .finished) (a .state))) (λ t. StillActive t) _ (c .before .before .still-active .ensures (a .plan) (a .state) (a .finished) refl refl refl (b .marks .ensures)) _ (c .before .lowest-wrong3 .ensures) (c .if3 .left))
+returns-4 c = let a = c .before .before .before .before .before .before .before .before .before .before .before .before .args in rw (← ran (c .before .before .before .before .before .before), ← in-time (c .before .before .before), ← lowest-accepted (a .released) (stillActive (a .plan) (finish (a .plan) (a .finished) (a .state))) (λ t. StillActive t) (c .before .before .still-active .result) (c .before .before .still-active .ensures (a .plan) (a .state) refl refl refl) _ (c .before .lowest-wrong3 .ensures) (c .if3 .left))
 
 pub judge-sets-spec : {M : Type 1} → statement M
 judge-sets-spec =
     tie.close
     (tie.spec
-    marks-requires
     not-run-requires
     lowest-wrong-requires
-    cast-t14
+    cast-t13
     returns
     too-soon-requires
     lowest-wrong-requires-2
-    cast-t17
+    cast-t16
     returns-2
     still-active-requires
     lowest-wrong-requires-3
-    cast-t20
+    cast-t19
     returns-3
     returns-4)

@@ -5,7 +5,7 @@ use lib.ListN.{getD}
 use borrow.Author.Needs.{needs}
 use Rattle.tasks.specs.Below.{any, first}
 use Rattle.tasks.specs.Tables.{taskNo}
-use Rattle.dispatch.specs.Sets.{member}
+use Rattle.jobs.specs.Sets.{member}
 use Rattle.dispatch.proofs.Judging.{first-past, wrongIn, lowest-turn}
 use Rattle.dispatch.proofs.lowest_wrong.Statement.{statement}
 use Rattle.dispatch.proofs.lowest_wrong.Tie as tie

@@ -6,18 +6,22 @@ use borrow.Author.Needs.{needs}
 use Rattle.tasks.proofs.Padded.{padded-turn}
 use Rattle.tasks.proofs.Tabulate.{padded-start}
 use Rattle.tasks.specs.Below.{padded}
-use Rattle.dispatch.proofs.Judging.{activeAt, active-all}
+use Rattle.jobs.proofs.Numbers.{active-no}
+use Rattle.dispatch.proofs.Judging.{activeAt, active-read}
 use Rattle.dispatch.proofs.still_active.Statement.{statement}
 use Rattle.dispatch.proofs.still_active.Tie as tie
 
 abbrev Inv-loop : tie.InvT-loop
-Inv-loop count tasks jobs finished wrong₀ t₀ wrong t = (t ≤ count) × (count ≤ 64) × (wrong ≡ padded 256 t false (activeAt tasks jobs finished))
+Inv-loop count tasks jobs ended wrong₀ t₀ wrong t = (t ≤ count) × (count ≤ 64) × (wrong ≡ padded 257 t false (activeAt tasks jobs ended))
 
 abbrev μ-loop : tie.MeasureT-loop
-μ-loop count tasks jobs finished wrong₀ t₀ wrong t = count - t
+μ-loop count tasks jobs ended wrong₀ t₀ wrong t = count - t
+
+marks-requires : tie.Need-marks-requires Inv-loop μ-loop
+marks-requires c κs = search needs
 
 loop-holds : tie.Need-loop-holds Inv-loop μ-loop
-loop-holds c = (search needs, search needs, padded-start 256 false _)
+loop-holds c = (search needs, search needs, padded-start 257 false _)
 
 mul-job : tie.Need-mul-job Inv-loop μ-loop
 mul-job c = search needs
@@ -25,8 +29,8 @@ mul-job c = search needs
 array-copy-out-job : tie.Need-array-copy-out-job Inv-loop μ-loop
 array-copy-out-job c = search needs
 
-is-active-requires : tie.Need-is-active-requires Inv-loop μ-loop
-is-active-requires c κs = search needs
+phase-no-requires : tie.Need-phase-no-requires Inv-loop μ-loop
+phase-no-requires c κs = search needs
 
 mul-wrong : tie.Need-mul-wrong Inv-loop μ-loop
 mul-wrong c = search needs
@@ -47,10 +51,10 @@ loop-less : tie.Need-loop-less Inv-loop μ-loop
 loop-less c = search needs
 
 loop-again : tie.Need-loop-again Inv-loop μ-loop
-loop-again c = let b = c .before .before .before .before in (search needs, search needs, padded-turn 256 false _ _ _ _ (search needs) (b .loop .inv .2) (rw (c .before .is-active .ensures)))
+loop-again c = (search needs, search needs, padded-turn 257 false _ _ _ _ (search needs) (c .before .before .before .before .loop .inv .2) (rw (c .before .phase-no .ensures, active-no)))
 
 returns : tie.Need-returns Inv-loop μ-loop
-returns c = λ p s fs h q j m. let b = c .before in let e : b .loop .t ≡ p .count = omega (arith, h) in rw (b .loop .inv .2, e, ← q, ← j, m) (active-all p (omega (arith, h)) s fs)
+returns c = λ p s h q j t l. let b = c .before in let e : b .loop .t ≡ p .count = omega (arith, h) in active-read p (omega (arith, h)) s (b .before .before .args .finished) (b .loop .wrong) (rw (← e, q, j, ← b .before .marks .ensures) (b .loop .inv .2)) t l
 
 pub still-active-spec : {M : Type 1} → statement M
 still-active-spec =
@@ -58,10 +62,11 @@ still-active-spec =
     (tie.spec
     Inv-loop
     μ-loop
+    marks-requires
     loop-holds
     mul-job
     array-copy-out-job
-    is-active-requires
+    phase-no-requires
     mul-wrong
     element-copy-out-wrong
     array-read-wrong

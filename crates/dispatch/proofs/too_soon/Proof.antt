@@ -6,18 +6,19 @@ use borrow.Author.Needs.{needs}
 use Rattle.tasks.proofs.Padded.{padded-turn}
 use Rattle.tasks.proofs.Tabulate.{padded-start}
 use Rattle.tasks.specs.Below.{padded}
-use Rattle.dispatch.proofs.Judging.{soonAt, soon-all}
+use Rattle.jobs.proofs.Numbers.{once-no}
+use Rattle.dispatch.proofs.Judging.{soonAt, soon-read}
 use Rattle.dispatch.proofs.too_soon.Statement.{statement}
 use Rattle.dispatch.proofs.too_soon.Tie as tie
 
 abbrev Inv-loop : tie.InvT-loop
-Inv-loop count tasks jobs wrong₀ t₀ wrong t = (t ≤ count) × (count ≤ 64) × (wrong ≡ padded 256 t true (soonAt tasks jobs))
+Inv-loop count tasks jobs wrong₀ t₀ wrong t = (t ≤ count) × (count ≤ 64) × (wrong ≡ padded 257 t true (soonAt tasks jobs))
 
 abbrev μ-loop : tie.MeasureT-loop
 μ-loop count tasks jobs wrong₀ t₀ wrong t = count - t
 
 loop-holds : tie.Need-loop-holds Inv-loop μ-loop
-loop-holds c = (search needs, search needs, padded-start 256 true _)
+loop-holds c = (search needs, search needs, padded-start 257 true _)
 
 mul-job : tie.Need-mul-job Inv-loop μ-loop
 mul-job c = search needs
@@ -25,8 +26,8 @@ mul-job c = search needs
 array-copy-out-job : tie.Need-array-copy-out-job Inv-loop μ-loop
 array-copy-out-job c = search needs
 
-once-released-requires : tie.Need-once-released-requires Inv-loop μ-loop
-once-released-requires c κs = search needs
+phase-no-requires : tie.Need-phase-no-requires Inv-loop μ-loop
+phase-no-requires c κs = search needs
 
 mul-wrong : tie.Need-mul-wrong Inv-loop μ-loop
 mul-wrong c = search needs
@@ -44,10 +45,10 @@ loop-less : tie.Need-loop-less Inv-loop μ-loop
 loop-less c = search needs
 
 loop-again : tie.Need-loop-again Inv-loop μ-loop
-loop-again c = let b = c .before .before .before .before in (search needs, search needs, padded-turn 256 true _ _ _ _ (search needs) (b .loop .inv .2) (rw (c .before .once-released .ensures)))
+loop-again c = (search needs, search needs, padded-turn 257 true _ _ _ _ (search needs) (c .before .before .before .before .loop .inv .2) (rw (c .before .phase-no .ensures, once-no)))
 
 returns : tie.Need-returns Inv-loop μ-loop
-returns c = λ p s fs h q j. let b = c .before in let e : b .loop .t ≡ p .count = omega (arith, h) in rw (b .loop .inv .2, e, ← q, ← j) (soon-all p (omega (arith, h)) s fs)
+returns c = λ p s fs h q j t l. let b = c .before in let e : b .loop .t ≡ p .count = omega (arith, h) in soon-read p (omega (arith, h)) s fs (b .loop .wrong) (rw (← e, q, j) (b .loop .inv .2)) t l
 
 pub too-soon-spec : {M : Type 1} → statement M
 too-soon-spec =
@@ -58,7 +59,7 @@ too-soon-spec =
     loop-holds
     mul-job
     array-copy-out-job
-    once-released-requires
+    phase-no-requires
     mul-wrong
     element-copy-out-wrong
     array-write-wrong

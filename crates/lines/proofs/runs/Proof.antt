@@ -1,7 +1,7 @@
 use borrow.Author.Needs.{needs}
 use Rattle.lines.specs.Lines.{gapText, runnerText, runsText}
 use Rattle.texts.specs.Text.{ascii, puts}
-use Rattle.dispatch.specs.Jobs.{noRun}
+use Rattle.jobs.specs.Jobs.{noRun}
 use lib.ListN.{getD}
 use mathlib.Core.List.{_++_}
 use Rattle.texts.proofs.Putting.{puts-parts, row-turn}

@@ -3,7 +3,7 @@ use mathlib.Core.List.{List}
 use mathlib.Core.Path.{_≡_, ap, _∙_}
 use native.Mathlib.Omega.{arith}
 use lib.ListN.{length, length-map}
-use Rattle.dispatch.specs.declared.Tasks.{Tasks}
+use Rattle.jobs.specs.declared.Tasks.{Tasks}
 use Rattle.replays.specs.Requests.{finishes, tasksAt, releasedIn}
 use Rattle.replays.proofs.Course.{handed-is}
 use borrow.Author.Needs.{needs}

@@ -1,4 +1,4 @@
-use Rattle.dispatch.specs.declared.Tasks.{Tasks}
+use Rattle.jobs.specs.declared.Tasks.{Tasks}
 use borrow.Author.Needs.{needs}
 use Rattle.runs.proofs.Turns.{allowed-few, allowed-turn}
 use Rattle.runs.specs.Allowed.{allowedBelow}

@@ -4,7 +4,7 @@ use native.Mathlib.Omega.{arith}
 use lib.ListN.{getD}
 use Rattle.tasks.specs.Below.{any}
 use Rattle.tasks.proofs.Below.{any-more}
-use Rattle.dispatch.specs.Jobs.{names, noRun}
+use Rattle.jobs.specs.Jobs.{names, noRun}
 use borrow.Author.Needs.{needs}
 use Rattle.runs.proofs.ran_in.Statement.{statement}
 use Rattle.runs.proofs.ran_in.Tie as tie

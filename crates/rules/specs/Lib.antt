@@ -1,0 +1,5 @@
+pub mod States
+pub mod Rules
+pub mod Advance
+pub mod Sound
+pub mod Choice
