@@ -26,7 +26,7 @@ fn say(words: &[u8]) {
 fn say_answer(answer: Answer) {
     match answer {
         Answer::Accepted => say(b"accepted\n"),
-        Answer::Refused(refusal) => console::print(telling::refused(refusal)),
+        Answer::Refused(refusal) => console::print(telling::refusal(Text::empty(), refusal)),
     }
 }
 
@@ -41,7 +41,7 @@ fn say_written(written: Written) {
             io::print_decimal(STDOUT_FILENO, length as u64);
             say(b" bytes\n");
         }
-        Written::Refused(refusal) => console::print(telling::refused(refusal)),
+        Written::Refused(refusal) => console::print(telling::refusal(Text::empty(), refusal)),
     }
 }
 
@@ -146,7 +146,7 @@ fn in_force<'a>(own: &'a [u8], shipped: &'a [u8]) {
     match force::which_in_force(own, shipped) {
         InForce::Own => say(b"the machine's own\n"),
         InForce::Shipped => say(b"the shipped ones\n"),
-        InForce::Neither(refusal) => console::print(telling::refused(refusal)),
+        InForce::Neither(refusal) => console::print(telling::refusal(Text::empty(), refusal)),
     }
 }
 
@@ -249,7 +249,7 @@ fn ticks(plan: Plan) {
 fn bounds(plan: Plan) {
     say(b"the bound of a piece past the list: ");
     if let Bounding::Refused(refusal) = asking::ask_bound(plan, 2) {
-        console::print(telling::refused(refusal));
+        console::print(telling::refusal(Text::empty(), refusal));
     }
 }
 

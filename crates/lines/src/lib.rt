@@ -1,6 +1,5 @@
 // The lines of ticks and their totals.
 ghost use mathlib.Core.Path.{_≡_};
-ghost use Prim.Native.Nat.{min};
 ghost use Rattle.texts.specs.Text.{puts};
 ghost use Rattle.lines.specs.Lines.{gapText, runnerText, runsText, ranText, totalsText};
 use board::Ran;
@@ -9,12 +8,6 @@ use jobs::Runner;
 use rules::State;
 use tasks::Answer;
 use texts::Text;
-
-fn smaller(a: usize, b: usize) -> usize
-    ensures { λ r. ⌜ r ≡ min a b ⌝ }
-{
-    if a < b { a } else { b }
-}
 
 // The task on a core, or `-`.
 fn on_core(text: Text, run: CoreRun) -> Text
@@ -41,7 +34,7 @@ fn gap(text: Text, x: usize) -> Text
 fn runs(text: Text, cores: usize, ran: Ran) -> Text
     ensures { λ r. ⌜ r ≡ puts text (runsText cores (ran .runs)) ⌝ }
 {
-    let most = smaller(cores, 16);
+    let most = if cores < 16 { cores } else { 16 };
     let mut t = text;
     let mut x = 0;
     while x < most {

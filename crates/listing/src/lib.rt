@@ -1,8 +1,7 @@
 // The listing of a plan, and what the lister prints.
 ghost use mathlib.Core.Path.{_≡_};
-ghost use Prim.Native.Nat.{min};
 ghost use Rattle.texts.specs.Text.{puts, textOf};
-ghost use Rattle.listing.specs.Listing.{headText, kindText, pieceText, listingText, plannedText, listerText};
+ghost use Rattle.listing.specs.Listing.{kindText, pieceText, listingText, plannedText, listerText};
 use layout::Planned;
 use plans::Kind;
 use plans::Piece;
@@ -10,23 +9,6 @@ use plans::Plan;
 use reading::ReadTable;
 use tasks::Answer;
 use texts::Text;
-
-fn smaller(a: usize, b: usize) -> usize
-    ensures { λ r. ⌜ r ≡ min a b ⌝ }
-{
-    if a < b { a } else { b }
-}
-
-// Cores and tasks.
-fn head(text: Text, cores: usize, tasks: usize) -> Text
-    ensures { λ r. ⌜ r ≡ puts text (headText cores tasks) ⌝ }
-{
-    text.words(b"cores ")
-        .number(cores as u64)
-        .words(b" tasks ")
-        .number(tasks as u64)
-        .words(b"\n")
-}
 
 fn kind(text: Text, kind: Kind) -> Text
     ensures { λ r. ⌜ r ≡ puts text (kindText kind) ⌝ }
@@ -49,12 +31,16 @@ fn piece(text: Text, piece: Piece) -> Text
         .words(b"\n")
 }
 
-// The plan's listing.
+// The plan's listing: cores and tasks, then each piece.
 fn listing(text: Text, plan: Plan) -> Text
     ensures { λ r. ⌜ r ≡ puts text (listingText plan) ⌝ }
 {
-    let mut t = head(text, plan.cores, plan.count);
-    let most = smaller(plan.placed, 128);
+    let mut t = text.words(b"cores ")
+        .number(plan.cores as u64)
+        .words(b" tasks ")
+        .number(plan.count as u64)
+        .words(b"\n");
+    let most = if plan.placed < 128 { plan.placed } else { 128 };
     let mut j = 0;
     while j < most {
         t = piece(t, plan.pieces[j]);
@@ -67,10 +53,11 @@ fn listing(text: Text, plan: Plan) -> Text
 pub fn planned(planned: Planned) -> Text
     ensures { λ r. ⌜ r ≡ textOf (plannedText planned) ⌝ }
 {
+    let text = Text::empty();
     let answer = planned.answer;
     match answer {
-        Answer::Accepted => listing(Text::empty(), planned.plan),
-        Answer::Refused(refusal) => telling::refused(refusal),
+        Answer::Accepted => listing(text, planned.plan),
+        Answer::Refused(refusal) => telling::refusal(text, refusal),
     }
 }
 
@@ -81,6 +68,6 @@ pub fn lister(read: ReadTable) -> Text
     let answer = read.answer;
     match answer {
         Answer::Accepted => planned(planner::plan_table(read.table)),
-        Answer::Refused(refusal) => telling::refused(refusal),
+        Answer::Refused(refusal) => telling::refusal(Text::empty(), refusal),
     }
 }

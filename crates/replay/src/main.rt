@@ -57,7 +57,7 @@ fn replay(plan: Plan, start: usize) {
     }
     let answer = replays::last(player);
     if let Answer::Refused(refusal) = answer {
-        console::print(telling::refused(refusal));
+        console::print(telling::refusal(Text::empty(), refusal));
     }
     console::print(lines::totals(Text::empty(), player.state));
 }
@@ -83,13 +83,13 @@ fn main() {
     let length = wide(head[0]) * 256 + wide(head[1]);
     let is_whole = fill(&mut file, length);
     if !is_told | !is_whole {
-        console::print(telling::refused(Refusal::CutShort(Place(0))));
+        console::print(telling::refusal(Text::empty(), Refusal::CutShort(Place(0))));
         return;
     }
     let read = console::plan_in(&file, length);
     let answer = read.answer;
     match answer {
         Answer::Accepted => replay(read.plan, 2 + length),
-        Answer::Refused(refusal) => console::print(telling::refused(refusal)),
+        Answer::Refused(refusal) => console::print(telling::refusal(Text::empty(), refusal)),
     }
 }

@@ -1,17 +1,10 @@
 // The totals of a watched run and the longest response seen of each task beside its deadline.
 ghost use mathlib.Core.Path.{_≡_};
-ghost use Prim.Native.Nat.{min};
 ghost use Rattle.texts.specs.Text.{puts, textOf};
 ghost use Rattle.responses.specs.Responses.{responseText, watchedText};
 use plans::Plan;
 use runs::Watched;
 use texts::Text;
-
-fn smaller(a: usize, b: usize) -> usize
-    ensures { λ r. ⌜ r ≡ min a b ⌝ }
-{
-    if a < b { a } else { b }
-}
 
 // A task's longest response beside its deadline.
 fn response(text: Text, task: usize, seen: u32, deadline: u32) -> Text
@@ -31,7 +24,7 @@ pub fn watched(plan: Plan, watched: Watched) -> Text
     ensures { λ r. ⌜ r ≡ textOf (watchedText plan watched) ⌝ }
 {
     let mut t = lines::totals(Text::empty(), watched.state);
-    let most = smaller(plan.count, 64);
+    let most = if plan.count < 64 { plan.count } else { 64 };
     let mut i = 0;
     while i < most {
         t = response(t, i, watched.longest[i], plan.tasks[i].deadline);

@@ -55,9 +55,10 @@ fn run_from(mut text: Text, plan: Plan, mut state: State, ticks: usize) -> Text
 pub fn runner(read: ReadPlan) -> Text
     ensures { λ r. ⌜ r ≡ textOf (runnerProgramText read) ⌝ }
 {
+    let text = Text::empty();
     let answer = read.answer;
     match answer {
-        Answer::Accepted => run_from(Text::empty(), read.plan, dispatch::fresh(), 20),
-        Answer::Refused(refusal) => telling::refused(refusal),
+        Answer::Accepted => run_from(text, read.plan, dispatch::fresh(), 20),
+        Answer::Refused(refusal) => telling::refusal(text, refusal),
     }
 }

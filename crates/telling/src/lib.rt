@@ -2,7 +2,7 @@
 ghost use mathlib.Core.Path.{_≡_};
 ghost use mathlib.Core.List.{_++_};
 ghost use Rattle.tasks.specs.Refusals.{place as atPlace, task as ofTask, given as wasGiven, number as numbered, tells};
-ghost use Rattle.texts.specs.Text.{puts, textOf, decimal};
+ghost use Rattle.texts.specs.Text.{puts, decimal};
 ghost use Rattle.telling.specs.Telling.{toldText, refusalText};
 use tasks::Place;
 use tasks::Refusal;
@@ -59,11 +59,4 @@ pub fn refusal(text: Text, refusal: Refusal) -> Text
     ensures { λ r. ⌜ r ≡ puts text (refusalText refusal) ⌝ }
 {
     told(text.words(b"refused "), refusal).words(b"\n")
-}
-
-// A refusal's line.
-pub fn refused(refused: Refusal) -> Text
-    ensures { λ r. ⌜ r ≡ textOf (refusalText refused) ⌝ }
-{
-    refusal(Text::empty(), refused)
 }

@@ -33,10 +33,10 @@ module _ (t : Text) where
   unfolding puts digits
   digits-none k n e = rw e
 
-  pub digits-last : (k n : ℕ) → (k ≡ 0 → ⊥) → n < 10 → put t (48 + n) ≡ puts t (digits k n)
+  pub digits-last : (k n : ℕ) → (k ≡ 0 → ⊥) → n < 10 → put t (48 + n % 10) ≡ puts t (digits k n)
   unfolding puts digits
   digits-last zero n some h = absurd (some refl)
-  digits-last (suc k) n some h = rw (lt-ltb n 10 h)
+  digits-last (suc k) n some h = let q : n % 10 ≡ n = omega arith in rw (q, lt-ltb n 10 h)
 
   pub digits-more : (k n : ℕ) → (k ≡ 0 → ⊥) → 10 ≤ n → put (puts t (digits (k - 1) (n / 10))) (48 + n % 10) ≡ puts t (digits k n)
   unfolding puts digits

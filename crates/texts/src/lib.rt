@@ -1,20 +1,11 @@
 // A text that a program prints, put together from words and numbers.
 ghost use mathlib.Core.Path.{_≡_};
-ghost use Prim.Native.Nat.{_+_, _<_};
-ghost use Rattle.texts.specs.Text.{noText, put, puts, textOf, decimal, digits};
+ghost use Rattle.texts.specs.Text.{noText, put, puts, decimal, digits};
 
 // The first `count` of `bytes`. What it cannot hold is left out.
 pub struct Text {
     pub bytes: [u8; 9216],
     pub count: usize,
-}
-
-// A decimal digit in ASCII.
-fn digit(n: u64) -> u8
-    requires { ⌜ n < 10 ⌝ }
-    ensures { λ r. ⌜ r ≡ 48 + n ⌝ }
-{
-    48 + n as u8
 }
 
 // A number's decimal digits, at most k of them.
@@ -24,10 +15,12 @@ fn with_digits(text: Text, k: usize, n: u64) -> Text
     if k == 0 {
         return text;
     }
-    if n < 10 {
-        return text.byte(digit(n));
-    }
-    with_digits(text, k - 1, n / 10).byte(digit(n % 10))
+    let front = if n < 10 {
+        text
+    } else {
+        with_digits(text, k - 1, n / 10)
+    };
+    front.byte(48 + (n % 10) as u8)
 }
 
 impl Text {

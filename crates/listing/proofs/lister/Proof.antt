@@ -6,7 +6,8 @@ use Rattle.listing.proofs.lister.Reads as reads
 use Rattle.listing.proofs.lister.Lts as lts
 use Rattle.planner.proofs.plan_table.Reads as plan-table-reads
 use Rattle.listing.proofs.planned.Reads as planned-reads
-use Rattle.telling.proofs.refused.Reads as refused-reads
+use Rattle.telling.proofs.refusal.Reads as refusal-reads
+use Rattle.texts.proofs.Text.empty.Reads as empty-reads
 
 enum-told : tie.Need-enum-told
 enum-told c = search needs
@@ -20,8 +21,11 @@ planned-requires c κs = search needs
 enum-known-answer : tie.Need-enum-known-answer
 enum-known-answer c = search needs
 
-refused-requires : tie.Need-refused-requires
-refused-requires c κs = search needs
+empty-requires : tie.Need-empty-requires
+empty-requires c κs = search needs
+
+refusal-requires : tie.Need-refusal-requires
+refusal-requires c κs = search needs
 
 returns : tie.Need-returns
 unfolding listerText
@@ -29,7 +33,7 @@ returns c = simp (c .before .before .enum-told .given .1, c .planned .ensures, c
 
 returns-2 : tie.Need-returns-2
 unfolding listerText
-returns-2 c = simp (c .before .before .answer .given .1, c .refused .ensures)
+returns-2 c = simp (c .before .before .before .answer .given .1, c .refusal .ensures, c .before .empty .ensures)
 
 pub lister-spec : {M : Type 1} → statement M
 lister-spec =
@@ -39,6 +43,7 @@ lister-spec =
     plan-table-requires
     planned-requires
     enum-known-answer
-    refused-requires
+    empty-requires
+    refusal-requires
     returns
     returns-2)

@@ -1,35 +1,54 @@
 use borrow.Author.Needs.{needs}
 use Rattle.plans.specs.Pieces.{pieceOf}
-use Rattle.listing.specs.Listing.{pieceText, listingText}
-use Rattle.texts.specs.Text.{puts}
+use Rattle.listing.specs.Listing.{headText, pieceText, listingText}
+use Rattle.texts.specs.Text.{ascii, puts}
 use Rattle.texts.proofs.Putting.{puts-parts, row-turn}
 use Rattle.writing.specs.Fields.{row}
-use Prim.Native.Nat.{_≤_, _-_}
+use Prim.Native.Nat.{_≤_, _-_, min}
 use native.Mathlib.Omega.{arith}
+use mathlib.Core.Logic.{⊎-elim}
 use mathlib.Core.Path.{_≡_, refl}
 use Rattle.listing.proofs.listing.Statement.{statement}
 use Rattle.listing.proofs.listing.Tie as tie
 use Rattle.listing.proofs.listing.Reads as reads
 use Rattle.listing.proofs.listing.Lts as lts
-use Rattle.listing.proofs.head.Reads as head-reads
 use Rattle.listing.proofs.piece.Reads as piece-reads
-use Rattle.listing.proofs.smaller.Reads as smaller-reads
+use Rattle.texts.proofs.Text.number.Reads as number-reads
+use Rattle.texts.proofs.Text.words.Reads as words-reads
 
 abbrev Inv-loop : tie.InvT-loop
-Inv-loop plan t₀ most j₀ t j = (j ≤ most) × (most ≤ 128) × (t ≡ puts t₀ (row j (λ k. pieceText (pieceOf plan k))))
+Inv-loop plan t₀ most j₀ t j = (j ≤ most) × (most ≡ min (plan .placed) 128) × (t ≡ puts t₀ (row j (λ k. pieceText (pieceOf plan k))))
 
 abbrev μ-loop : tie.MeasureT-loop
 μ-loop plan t₀ most j₀ t j = most - j
 
-head-requires : tie.Need-head-requires Inv-loop μ-loop
-head-requires c κs = search needs
+slice-aggregate-words : tie.Need-slice-aggregate-words Inv-loop μ-loop
+slice-aggregate-words c = search needs
 
-smaller-requires : tie.Need-smaller-requires Inv-loop μ-loop
-smaller-requires c κs = search needs
+words-requires : tie.Need-words-requires Inv-loop μ-loop
+words-requires c κs = search needs
+
+number-requires : tie.Need-number-requires Inv-loop μ-loop
+number-requires c κs = search needs
+
+slice-aggregate-words-2 : tie.Need-slice-aggregate-words-2 Inv-loop μ-loop
+slice-aggregate-words-2 c = search needs
+
+words-requires-2 : tie.Need-words-requires-2 Inv-loop μ-loop
+words-requires-2 c κs = search needs
+
+number-requires-2 : tie.Need-number-requires-2 Inv-loop μ-loop
+number-requires-2 c κs = search needs
+
+slice-aggregate-words-3 : tie.Need-slice-aggregate-words-3 Inv-loop μ-loop
+slice-aggregate-words-3 c = search needs
+
+words-requires-3 : tie.Need-words-requires-3 Inv-loop μ-loop
+words-requires-3 c κs = search needs
 
 loop-holds : tie.Need-loop-holds Inv-loop μ-loop
 unfolding row puts
-loop-holds c = (search needs, omega (arith, c .smaller .ensures), refl)
+loop-holds c = (search needs, ⊎-elim (λ w. omega arith) (λ w. omega arith) (c .if1 .came), refl)
 
 mul-piece : tie.Need-mul-piece Inv-loop μ-loop
 mul-piece c = search needs
@@ -50,8 +69,8 @@ loop-again : tie.Need-loop-again Inv-loop μ-loop
 loop-again c = (search needs, search needs, row-turn _ _ _ _ _ (c .before .before .before .loop .inv .2) (c .piece .ensures))
 
 returns : tie.Need-returns Inv-loop μ-loop
-unfolding listingText
-returns c = let e : c .before .loop .j ≡ c .before .before .smaller .result = omega arith in simp (puts-parts, c .before .loop .inv .2, e, c .before .before .smaller .ensures, c .before .before .before .head .ensures)
+unfolding listingText headText ascii
+returns c = let e : c .before .loop .j ≡ c .before .before .if1 .most = omega arith in simp (puts-parts, c .before .loop .inv .2, e, c .before .loop .inv .1, c .before .before .before .words3 .ensures, c .before .before .before .before .before .number2 .ensures, c .before .before .before .before .before .before .words2 .ensures, c .before .before .before .before .before .before .before .before .number .ensures, c .before .before .before .before .before .before .before .before .before .words .ensures)
 
 pub listing-spec : {M : Type 1} → statement M
 listing-spec =
@@ -59,8 +78,14 @@ listing-spec =
     (tie.spec
     Inv-loop
     μ-loop
-    head-requires
-    smaller-requires
+    slice-aggregate-words
+    words-requires
+    number-requires
+    slice-aggregate-words-2
+    words-requires-2
+    number-requires-2
+    slice-aggregate-words-3
+    words-requires-3
     loop-holds
     mul-piece
     element-copy-out-piece

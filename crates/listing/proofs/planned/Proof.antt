@@ -3,15 +3,15 @@ use Rattle.listing.proofs.planned.Statement.{statement}
 use Rattle.listing.proofs.planned.Tie as tie
 use Rattle.listing.proofs.planned.Reads as reads
 use Rattle.listing.proofs.planned.Lts as lts
-use Rattle.texts.proofs.Text.empty.Reads as empty-reads
 use Rattle.listing.proofs.listing.Reads as listing-reads
-use Rattle.telling.proofs.refused.Reads as refused-reads
-
-enum-told : tie.Need-enum-told
-enum-told c = search needs
+use Rattle.telling.proofs.refusal.Reads as refusal-reads
+use Rattle.texts.proofs.Text.empty.Reads as empty-reads
 
 empty-requires : tie.Need-empty-requires
 empty-requires c κs = search needs
+
+enum-told : tie.Need-enum-told
+enum-told c = search needs
 
 listing-requires : tie.Need-listing-requires
 listing-requires c κs = search needs
@@ -19,23 +19,23 @@ listing-requires c κs = search needs
 enum-known-answer : tie.Need-enum-known-answer
 enum-known-answer c = search needs
 
-refused-requires : tie.Need-refused-requires
-refused-requires c κs = search needs
+refusal-requires : tie.Need-refusal-requires
+refusal-requires c κs = search needs
 
 returns : tie.Need-returns
-returns c = simp (c .before .before .enum-told .given .1, c .listing .ensures, c .before .empty .ensures)
+returns c = simp (c .before .enum-told .given .1, c .listing .ensures, c .before .before .before .empty .ensures)
 
 returns-2 : tie.Need-returns-2
-returns-2 c = simp (c .before .before .answer .given .1, c .refused .ensures)
+returns-2 c = simp (c .before .before .answer .given .1, c .refusal .ensures, c .before .before .before .before .empty .ensures)
 
 pub planned-spec : {M : Type 1} → statement M
 planned-spec =
     tie.close
     (tie.spec
-    enum-told
     empty-requires
+    enum-told
     listing-requires
     enum-known-answer
-    refused-requires
+    refusal-requires
     returns
     returns-2)

@@ -5,7 +5,7 @@ use Rattle.replay.proofs.replay.Reads as reads
 use Rattle.replay.proofs.replay.Lts as lts
 use Rattle.console.proofs.print.Reads as print-reads
 use Rattle.texts.proofs.Text.empty.Reads as empty-reads
-use Rattle.telling.proofs.refused.Reads as refused-reads
+use Rattle.telling.proofs.refusal.Reads as refusal-reads
 use Rattle.lines.proofs.totals.Reads as totals-reads
 use Rattle.replay.proofs.feed_some.Reads as feed-some-reads
 use Rattle.replays.proofs.last.Reads as last-reads
@@ -48,8 +48,11 @@ last-requires c κs = search needs
 enum-known-answer : tie.Need-enum-known-answer Inv-loop μ-loop
 enum-known-answer c = search needs
 
-refused-requires : tie.Need-refused-requires Inv-loop μ-loop
-refused-requires c κs = search needs
+empty-requires : tie.Need-empty-requires Inv-loop μ-loop
+empty-requires c κs = search needs
+
+refusal-requires : tie.Need-refusal-requires Inv-loop μ-loop
+refusal-requires c κs = search needs
 
 print-requires-2 : tie.Need-print-requires-2 Inv-loop μ-loop
 print-requires-2 c κs = search needs
@@ -57,8 +60,8 @@ print-requires-2 c κs = search needs
 enum-told : tie.Need-enum-told Inv-loop μ-loop
 enum-told c = search needs
 
-empty-requires : tie.Need-empty-requires Inv-loop μ-loop
-empty-requires c κs = search needs
+empty-requires-2 : tie.Need-empty-requires-2 Inv-loop μ-loop
+empty-requires-2 c κs = search needs
 
 totals-requires : tie.Need-totals-requires Inv-loop μ-loop
 totals-requires c κs = search needs
@@ -85,10 +88,11 @@ replay-spec =
     loop-again
     last-requires
     enum-known-answer
-    refused-requires
+    empty-requires
+    refusal-requires
     print-requires-2
     enum-told
-    empty-requires
+    empty-requires-2
     totals-requires
     print-requires-3
     returns)

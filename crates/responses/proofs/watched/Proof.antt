@@ -5,20 +5,20 @@ use Rattle.texts.specs.Text.{puts}
 use lib.ListN.{getD}
 use Rattle.texts.proofs.Putting.{puts-parts, row-turn}
 use Rattle.writing.specs.Fields.{row}
-use Prim.Native.Nat.{_≤_, _-_}
+use Prim.Native.Nat.{_≤_, _-_, min}
 use native.Mathlib.Omega.{arith}
+use mathlib.Core.Logic.{⊎-elim}
 use mathlib.Core.Path.{_≡_, refl}
 use Rattle.responses.proofs.watched.Statement.{statement}
 use Rattle.responses.proofs.watched.Tie as tie
 use Rattle.responses.proofs.watched.Reads as reads
 use Rattle.responses.proofs.watched.Lts as lts
-use Rattle.texts.proofs.Text.empty.Reads as empty-reads
-use Rattle.responses.proofs.response.Reads as response-reads
-use Rattle.responses.proofs.smaller.Reads as smaller-reads
 use Rattle.lines.proofs.totals.Reads as totals-reads
+use Rattle.responses.proofs.response.Reads as response-reads
+use Rattle.texts.proofs.Text.empty.Reads as empty-reads
 
 abbrev Inv-loop : tie.InvT-loop
-Inv-loop plan watched t₀ most i₀ t i = (i ≤ most) × (most ≤ 64) × (t ≡ puts t₀ (row i (λ k. responseText k (getD (watched .longest) k 0) (taskOf plan k .deadline))))
+Inv-loop plan watched t₀ most i₀ t i = (i ≤ most) × (most ≡ min (plan .count) 64) × (t ≡ puts t₀ (row i (λ k. responseText k (getD (watched .longest) k 0) (taskOf plan k .deadline))))
 
 abbrev μ-loop : tie.MeasureT-loop
 μ-loop plan watched t₀ most i₀ t i = most - i
@@ -29,12 +29,9 @@ empty-requires c κs = search needs
 totals-requires : tie.Need-totals-requires Inv-loop μ-loop
 totals-requires c κs = search needs
 
-smaller-requires : tie.Need-smaller-requires Inv-loop μ-loop
-smaller-requires c κs = search needs
-
 loop-holds : tie.Need-loop-holds Inv-loop μ-loop
 unfolding row puts
-loop-holds c = (search needs, omega (arith, c .smaller .ensures), refl)
+loop-holds c = (search needs, ⊎-elim (λ w. omega arith) (λ w. omega arith) (c .if1 .came), refl)
 
 mul-response : tie.Need-mul-response Inv-loop μ-loop
 mul-response c = search needs
@@ -62,7 +59,7 @@ loop-again c = (search needs, search needs, row-turn _ _ _ _ _ (c .before .befor
 
 returns : tie.Need-returns Inv-loop μ-loop
 unfolding watchedText
-returns c = let e : c .before .loop .i ≡ c .before .before .smaller .result = omega arith in simp (puts-parts, c .before .loop .inv .2, e, c .before .before .smaller .ensures, c .before .before .before .totals .ensures, c .before .before .before .before .before .empty .ensures)
+returns c = let e : c .before .loop .i ≡ c .before .before .if1 .most = omega arith in simp (puts-parts, c .before .loop .inv .2, e, c .before .loop .inv .1, c .before .before .before .totals .ensures, c .before .before .before .before .before .empty .ensures)
 
 pub watched-spec : {M : Type 1} → statement M
 watched-spec =
@@ -72,7 +69,6 @@ watched-spec =
     μ-loop
     empty-requires
     totals-requires
-    smaller-requires
     loop-holds
     mul-response
     element-copy-out-response
