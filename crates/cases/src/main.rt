@@ -19,23 +19,28 @@ use tasks::TaskNo;
 use texts::Text;
 use writing::Written;
 
+// The number of no task.
+const NONE: u8 = 64;
+
 fn say(words: &[u8]) {
     io::write_all(STDOUT_FILENO, words);
 }
 
-fn say_answer(answer: Answer) {
+fn say_answer(words: &[u8], answer: Answer) {
+    say(words);
     match answer {
         Answer::Accepted => say(b"accepted\n"),
         Answer::Refused(refusal) => console::print(telling::refusal(Text::empty(), refusal)),
     }
 }
 
-fn say_read(read: ReadTable) {
+fn say_read(words: &[u8], read: ReadTable) {
     let answer = read.answer;
-    say_answer(answer);
+    say_answer(words, answer);
 }
 
-fn say_written(written: Written) {
+fn say_written(words: &[u8], written: Written) {
+    say(words);
     match written {
         Written::Length(length) => {
             io::print_decimal(STDOUT_FILENO, length as u64);
@@ -76,14 +81,16 @@ fn table(count: usize, period: u32) -> Table {
 
 // Period 1,000,000 is taken, 1,000,001 refused: in a record and in a file.
 fn periods() {
-    say(b"period 1000000: ");
-    say_answer(tasks::check_table(table(1, 1000000)));
-    say(b"period 1000001: ");
-    say_answer(tasks::check_table(table(1, 1000001)));
-    say(b"period 1000000 in a file: ");
-    say_read(reading::read_table(&[2, 0, 12, 0, 0, 0, 6, 0, 0, 0, 10, 0, 15, 66, 64]));
-    say(b"period 1000001 in a file: ");
-    say_read(reading::read_table(&[2, 0, 12, 0, 0, 0, 6, 0, 0, 0, 10, 0, 15, 66, 65]));
+    say_answer(b"period 1000000: ", tasks::check_table(table(1, 1000000)));
+    say_answer(b"period 1000001: ", tasks::check_table(table(1, 1000001)));
+    say_read(
+        b"period 1000000 in a file: ",
+        reading::read_table(&[2, 0, 12, 0, 0, 0, 6, 0, 0, 0, 10, 0, 15, 66, 64]),
+    );
+    say_read(
+        b"period 1000001 in a file: ",
+        reading::read_table(&[2, 0, 12, 0, 0, 0, 6, 0, 0, 0, 10, 0, 15, 66, 65]),
+    );
 }
 
 // A file of so many tasks, fed field by field.
@@ -99,12 +106,9 @@ fn fed(count: usize) -> ReadTable {
 
 // 64 tasks are read, 65 not.
 fn counts() {
-    say(b"64 tasks: ");
-    say_read(fed(64));
-    say(b"65 tasks: ");
-    say_read(fed(65));
-    say(b"no task: ");
-    say_read(fed(0));
+    say_read(b"64 tasks: ", fed(64));
+    say_read(b"65 tasks: ", fed(65));
+    say_read(b"no task: ", fed(0));
 }
 
 // If the core count is absent, it is 4.
@@ -115,31 +119,29 @@ fn cores() {
 
 // A table file for two cores and one task is 19 bytes, and the byte past them stays as it was.
 fn writing() {
-    say(b"a table file: ");
     let mut long = [7u8; 20];
     let written = writing::write_table(table(1, 10), &mut long);
-    say_written(written);
+    say_written(b"a table file: ", written);
     say_bytes(&long);
-    say(b"a buffer one byte short: ");
     let mut short = [7u8; 18];
     let refused = writing::write_table(table(1, 10), &mut short);
-    say_written(refused);
+    say_written(b"a buffer one byte short: ", refused);
     say_bytes(&short);
 }
 
 // What is written is read back: the listing of the plan that the file holds.
 fn reading_back(plan: Plan) {
-    say(b"a plan file: ");
     let mut file = io::buffer();
     let written = writing::write_plan(plan, &mut file);
-    say_written(written);
+    say_written(b"a plan file: ", written);
     if let Written::Length(length) = written {
         console::print(running::runner(console::plan_in(&file, length)));
     }
 }
 
 // The table in force: how many bytes of task fields, and whose they are or why there are none.
-fn in_force<'a>(own: &'a [u8], shipped: &'a [u8]) {
+fn in_force<'a>(words: &'a [u8], own: &'a [u8], shipped: &'a [u8]) {
+    say(words);
     let part = force::table_in_force(own, shipped);
     io::print_decimal(STDOUT_FILENO, part.len() as u64);
     say(b" bytes of task fields, ");
@@ -154,14 +156,10 @@ fn forces() {
     let good = [1u8, 0, 1, 2, 2, 0, 12, 0, 0, 0, 6, 0, 0, 0, 10, 0, 0, 0, 10];
     let bare = [2u8, 0, 12, 0, 0, 0, 6, 0, 0, 0, 10, 0, 0, 0, 10];
     let bad = [1u8, 0, 1];
-    say(b"both good: ");
-    in_force(&bare, &good);
-    say(b"the machine's own good: ");
-    in_force(&good, &bad);
-    say(b"the shipped one good: ");
-    in_force(&bad, &good);
-    say(b"both bad: ");
-    in_force(&bad, &bad);
+    in_force(b"both good: ", &bare, &good);
+    in_force(b"the machine's own good: ", &good, &bad);
+    in_force(b"the shipped one good: ", &bad, &good);
+    in_force(b"both bad: ", &bad, &bad);
 }
 
 // A plan made by hand that misses deadlines: two tasks (10,10,10) on one core, the first whole.
@@ -193,23 +191,18 @@ fn by_hand(second: Kind) -> Plan {
     }
 }
 
-fn none() -> Tasks {
-    Tasks {
-        members: [TaskNo(0); 64],
-        count: 0,
-    }
-}
-
+// The set of one task, or of none.
 fn only(task: u8) -> Tasks {
     Tasks {
         members: [TaskNo(task); 64],
-        count: 1,
+        count: if task < NONE { 1 } else { 0 },
     }
 }
 
 // One tick from a state.
-fn tick(plan: Plan, state: State, finished: Tasks, released: Tasks) {
-    let ticked = dispatch::tick(plan, state, finished, released);
+fn tick(words: &[u8], plan: Plan, state: State, finished: u8, released: u8) {
+    say(words);
+    let ticked = dispatch::tick(plan, state, only(finished), only(released));
     let answer = ticked.answer;
     let runs = ticked.runs;
     console::print(lines::ran(Text::empty(), plan.cores, Ran { answer, runs }));
@@ -218,19 +211,25 @@ fn tick(plan: Plan, state: State, finished: Tasks, released: Tasks) {
 // What a tick is refused with.
 fn ticks(plan: Plan) {
     let fresh = dispatch::fresh();
-    say(b"a finish of a task not run: ");
-    tick(plan, fresh, only(1), none());
-    say(b"a release of no such task: ");
-    tick(plan, fresh, none(), only(2));
+    tick(b"a finish of a task not run: ", plan, fresh, 1, NONE);
+    tick(b"a release of no such task: ", plan, fresh, NONE, 2);
     let first = runs::watch(plan, 1);
-    say(b"a release at age below p: ");
-    tick(plan, first.state, none(), only(0));
-    say(b"a release at age p while active: ");
+    tick(b"a release at age below p: ", plan, first.state, NONE, 0);
     let tenth = runs::watch(plan, 10);
-    tick(plan, tenth.state, none(), only(1));
-    say(b"a finish and a release in one tick: ");
-    tick(plan, tenth.state, only(0), only(0));
-    say(b"a task never released of age 1: ");
+    tick(
+        b"a release at age p while active: ",
+        plan,
+        tenth.state,
+        NONE,
+        1,
+    );
+    tick(
+        b"a finish and a release in one tick: ",
+        plan,
+        tenth.state,
+        0,
+        0,
+    );
     let mut aged = fresh;
     aged.jobs[0] = Job {
         phase: Phase::Never,
@@ -239,7 +238,7 @@ fn ticks(plan: Plan) {
         age: 1,
         ran: 0,
     };
-    tick(plan, aged, none(), none());
+    tick(b"a task never released of age 1: ", plan, aged, NONE, NONE);
     say(b"after 40 ticks at full rate: ");
     let seen = runs::watch(plan, 40);
     console::print(lines::totals(Text::empty(), seen.state));
@@ -264,6 +263,8 @@ fn main() {
     let hand = by_hand(Kind::Whole);
     ticks(hand);
     bounds(hand);
-    say(b"a share that is a task's only piece: ");
-    say_answer(shapes::check_plan(by_hand(Kind::Share)));
+    say_answer(
+        b"a share that is a task's only piece: ",
+        shapes::check_plan(by_hand(Kind::Share)),
+    );
 }
