@@ -98,7 +98,7 @@ fn fed(count: usize) -> ReadTable {
     let mut reader = reading::start_table();
     let mut i = 0;
     while i < count {
-        reader = reading::feed(reader, &[2, 0, 12, 0, 0, 0, 6, 0, 0, 0, 10, 0, 0, 0, 10]);
+        reader = fields::feed(reader, &[2, 0, 12, 0, 0, 0, 6, 0, 0, 0, 10, 0, 0, 0, 10]);
         i += 1;
     }
     reading::close_table(reader)

@@ -3,11 +3,11 @@
 ghost use mathlib.Core.Path.{_≡_};
 ghost use lib.ListN.{take};
 ghost use Rattle.reading.specs.Reading.{planRead};
+use fields::Reader;
 use libc::STDIN_FILENO;
 use libc::STDOUT_FILENO;
 use reading::ReadPlan;
 use reading::ReadTable;
-use reading::Reader;
 use texts::Text;
 
 // A reader after one more part, and whether the input may go on.
@@ -22,7 +22,7 @@ fn feed_some(reader: Reader) -> Fed {
     let got = libc::read(STDIN_FILENO, &mut part);
     let n = io::count(got, &part);
     Fed {
-        reader: reading::feed(reader, &part[..n]),
+        reader: fields::feed(reader, &part[..n]),
         more: n > 0,
     }
 }

@@ -3,8 +3,6 @@ use contract.Lifetimes.{Lfts}
 use Rattle.tasks.proofs.Settling.{Settles, settled}
 use Rattle.reading.proofs.start_table.Reads as start-table
 use Rattle.reading.proofs.start_plan.Reads as start-plan
-use Rattle.reading.proofs.feed.Reads as feed
-use Rattle.reading.proofs.further.Reads as further
 use Rattle.reading.proofs.close_table.Reads as close-table
 use Rattle.reading.proofs.close_plan.Reads as close-plan
 use Rattle.reading.proofs.read_table.Reads as read-table
@@ -15,9 +13,6 @@ start-table-settled x e r s p q = settled p q
 
 pub start-plan-settled : Settles (start-plan.Post tt)
 start-plan-settled x e r s p q = settled p q
-
-pub feed-settled : (κ : Lfts 1) → Settles (feed.Post κ)
-feed-settled κ x e r s p q = settled p q
 
 pub close-table-settled : Settles (close-table.Post tt)
 close-table-settled x e r s p q = settled p q
@@ -30,6 +25,3 @@ read-table-settled κ x e r s p q = settled p q
 
 pub read-plan-settled : (κ : Lfts 1) → Settles (read-plan.Post κ)
 read-plan-settled κ x e r s p q = settled p q
-
-pub further-settled : Settles (further.Post tt)
-further-settled x e r s p q = settled p q

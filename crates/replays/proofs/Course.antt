@@ -21,7 +21,7 @@ use Rattle.texts.specs.Text.{noText, puts, textOf}
 use Rattle.texts.specs.declared.Text.{Text}
 use Rattle.texts.proofs.Putting.{puts-parts}
 use Rattle.rules.specs.declared.State.{State}
-use Rattle.reading.specs.Reading.{further}
+use Rattle.tasks.specs.Places.{further}
 use Rattle.replays.specs.Requests.{requestSize, requestAnswer}
 use Rattle.replays.specs.Replay.{placeAt, tickAsked, Standing, next, played, wholes, atHand, standing, playedOn, lastAnswer}
 use Rattle.replays.specs.Turns.{endOf, beginOf, handed, finishesOf, releasesOf, shownOf, shotOf, shotAfter}

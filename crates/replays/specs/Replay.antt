@@ -10,7 +10,8 @@ use Rattle.tasks.specs.declared.Answer.the-variants.{Accepted, Refused}
 use Rattle.tasks.specs.declared.Place.{Place}
 use Rattle.tasks.specs.declared.Refusal.the-variants.{CutShort}
 use Rattle.plans.specs.declared.Plan.{Plan}
-use Rattle.reading.specs.Reading.{further, planRead}
+use Rattle.tasks.specs.Places.{further}
+use Rattle.reading.specs.Reading.{planRead}
 use Rattle.reading.specs.declared.ReadPlan.{ReadPlan}
 use Rattle.rules.specs.States.{freshState}
 use Rattle.dispatch.specs.Tick.{tick}

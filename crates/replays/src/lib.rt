@@ -224,7 +224,7 @@ pub fn play(player: Player, plan: Plan) -> Player
         state,
         bytes: left(bytes, count, at),
         count: count - at,
-        place: reading::further(player.place, at),
+        place: tasks::further(player.place, at),
         text,
     }
 }

@@ -1,3 +1,4 @@
 pub mod Below
+pub mod Places
 pub mod Refusals
 pub mod Tables

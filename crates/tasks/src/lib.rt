@@ -4,6 +4,7 @@ ghost use Prim.Native.Nat.{_<_};
 ghost use mathlib.Core.Bool.{_&&_};
 ghost use lib.Dec.{leb};
 ghost use lib.ListN.{getD};
+ghost use Rattle.tasks.specs.Places.{further};
 ghost use Rattle.tasks.specs.Tables.{noTask, valuesFit, checkedTasks, checkedTable};
 
 // A task's number in table order: document 004's T. Never a core's.
@@ -72,6 +73,16 @@ impl CoreNo {
         let core = self.0;
         core as usize
     }
+}
+
+// The place `n` bytes further on, as far as a number tells.
+pub fn further(p: usize, n: usize) -> usize
+    ensures { λ r. ⌜ r ≡ further p n ⌝ }
+{
+    if p <= 18446744073709551615 - n {
+        return p + n;
+    }
+    18446744073709551615
 }
 
 // 1 ≤ c ≤ d ≤ p ≤ 1,000,000.

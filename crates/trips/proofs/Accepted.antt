@@ -10,24 +10,20 @@ use native.Mathlib.Omega.{arith}
 use lib.Dec.{eqb}
 use lib.ListN.{length, getD, set, take, replicate, length-append, length-set, length-replicate, getD-replicate, List·getD-eq-default}
 use lib.Seq.{length-take-le, take-suc-set, getD-set-same, getD-set-other}
-use borrow.Author.Tests.{eq-eqb, ne-eqb}
+use borrow.Author.Tests.{eq-eqb}
 use Rattle.tasks.proofs.Bools.{clash}
 use Rattle.tasks.specs.Tables.{noTask, coresFit, valuesFit}
-use Rattle.tasks.specs.declared.Answer.{Answer}
-use Rattle.tasks.specs.declared.Answer.the-variants.{Accepted, Refused}
 use Rattle.tasks.specs.declared.Task.{Task}
 use Rattle.plans.specs.Pieces.{noPiece, taskOf, pieceOf, CleanPlan}
 use Rattle.plans.specs.declared.Piece.{Piece}
 use Rattle.plans.specs.declared.Plan.{Plan}
 use Rattle.writing.specs.Fields.{coreField, taskField, pieceField, row}
-use Rattle.reading.specs.Reading.{tag, lengthFor, taskIn, pieceIn, verdict, hold, fieldAt, further, pieceTaken, nextField, withCores, withTask, withPiece, added, settled, step, read}
-use Rattle.reading.specs.declared.Field.{Field}
-use Rattle.reading.specs.declared.Reader.{Reader}
-use Rattle.reading.specs.declared.Verdict.{Verdict}
-use Rattle.reading.specs.declared.Verdict.the-variants.{Waits, Bad, Good}
-use Rattle.reading.proofs.Reading.{reader, next-other, cores-added, task-added, read-refused, step-good, good-room}
+use Rattle.tasks.specs.Places.{further}
+use Rattle.fields.specs.Fields.{tag, lengthFor, taskIn, pieceIn, verdict, hold, fieldAt, pieceTaken, nextField, withCores, withTask, withPiece, added, settled, step, read}
+use Rattle.fields.specs.declared.Field.{Field}
+use Rattle.fields.specs.declared.Reader.{Reader}
+use Rattle.fields.proofs.Fields.{reader, next-other, cores-added, task-added, read-refused, step-good, settled-bad, good-room}
 use Rattle.trips.proofs.Taken.{piece-room, piece-kind, Found, good-found, waits-short, tag-cases, cores-good, values-good, core-text, task-text, piece-text}
-use Rattle.trips.proofs.Good.{accepted-not-refused}
 use Rattle.trips.proofs.ReadBack.{hold-is, length-most}
 use Rattle.trips.proofs.RoundTrip.{further-is}
 
@@ -52,7 +48,7 @@ pub record Content (o named : Bool) (s : List ℕ) (f : Field) (p : Plan) : Type
 -- a file s was read without a refusal, and its next field is f
 pub record Held (o : Bool) (s : List ℕ) (f : Field) (p : Plan) : Type 0 where
   pub kind : f .pieces ≡ o
-  pub answer : f .answer ≡ Accepted
+  pub bad : f .bad ≡ 0
   pub whole : f .place + f .count ≡ length s
   pub ends : f .end ≤ f .place
   pub size : length (f .bytes) ≡ 15
@@ -65,7 +61,7 @@ pub record Held (o : Bool) (s : List ℕ) (f : Field) (p : Plan) : Type 0 where
 hold-held : (o : Bool) (s : List ℕ) (f : Field) (p : Plan) (b : ℕ) → Held o s f p → f .count < 15 → b < 256 → Held o (s ++ (b ∷ [])) (hold f b) p
 hold-held o s f p b h l k = rw (hold-is f b l) (record {
   kind = h .kind;
-  answer = h .answer;
+  bad = h .bad;
   whole = omega (arith, h .whole, length-append s (b ∷ []));
   ends = h .ends;
   size = length-set (f .bytes) (f .count) b ∙ h .size;
@@ -135,12 +131,12 @@ pub zero-byte : (i : ℕ) → getD (replicate 15 0) i 0 < 256
 zero-byte i = rw (cleared {A = ℕ} 15 0 i) (omega arith)
 
 module _ (o : Bool) (s : List ℕ) (g : Field) (p : Plan) (h : Held o s g p) (d : Found g) (e : g .count ≡ 3 + lengthFor (tag g)) (most : length s ≤ 18446744073709551615) where
-  next-place : further (g .place) (3 + lengthFor (tag g)) ≡ length s
-  next-place = further-is _ _ (omega (arith, h .whole)) ∙ omega (arith, h .whole)
+  next-place : further (g .place) (g .count) ≡ length s
+  next-place = further-is _ _ (omega (arith, h .whole)) ∙ h .whole
 
   -- the next field stands where what was read ends
   next-held : (end : ℕ) (w named : Bool) (q : Plan) → end ≤ length s → (o ≡ false → w ≡ false) → (w ≡ false → Content o named s (fieldAt (g .pieces) (length s) end w) q) → Held o s (fieldAt (g .pieces) (length s) end w) q
-  next-held end w named q l m c = record { kind = h .kind; answer = refl; whole = omega arith; ends = l; size = refl; small = zero-byte; plain = m; named = named; good = c }
+  next-held end w named q l m c = record { kind = h .kind; bad = refl; whole = omega arith; ends = l; size = refl; small = zero-byte; plain = m; named = named; good = c }
 
   taken-cores : tag g ≡ 1 → g .place ≡ 0 → Held o s (fieldAt (g .pieces) (length s) (length s) (g .misshapen)) (withCores p (getD (g .bytes) 3 0))
   taken-cores t z = next-held (length s) (g .misshapen) true _ (omega arith) (h .plain) content
@@ -223,7 +219,7 @@ module _ (o : Bool) (s : List ℕ) (g : Field) (p : Plan) (h : Held o s g p) (d 
 
   piece-added : (b : Bool) → tag g ≡ 3 → pieceTaken g (p .placed) ≡ b → added g p ≡ cond b (withPiece p (pieceIn g)) p
   unfolding added
-  piece-added b q k = rw (ne-eqb (tag g) 1 (λ r. omega arith), ne-eqb (tag g) 2 (λ r. omega arith), k)
+  piece-added b q k = rw (eq-eqb (tag g) 3 q, k)
 
   taken-held : (tag g ≡ 2 → p .count < 64) → Held o s (nextField g (p .placed)) (added g p)
   taken-held room = go (tag-cases g (d .fits))
@@ -233,8 +229,8 @@ module _ (o : Bool) (s : List ℕ) (g : Field) (p : Plan) (h : Held o s g p) (d 
       of-piece t z false k = next-held (g .end) true (h .named) p (omega (arith, h .ends, h .whole)) (λ q. clash z (h .kind ∙ q)) (λ q. clash refl q)
 
       go : ((tag g ≡ 1) × (g .place ≡ 0)) ⊎ (((tag g ≡ 2) × (g .place ≤ g .end)) ⊎ ((tag g ≡ 3) × (g .pieces ≡ true))) → Held o s (nextField g (p .placed)) (added g p)
-      go (inl t) = rw (plain-next (p .placed) (λ q. omega arith), ← cores-added g p (t .0)) (taken-cores (t .0) (t .1))
-      go (inr (inl t)) = rw (plain-next (p .placed) (λ q. omega arith), ← task-added g p (λ q. omega arith) (t .0)) (taken-task (t .0) (t .1) (room (t .0)))
+      go (inl t) = rw (plain-next (p .placed) (λ q. omega arith), ← cores-added g p (λ q. omega arith) (t .0)) (taken-cores (t .0) (t .1))
+      go (inr (inl t)) = rw (plain-next (p .placed) (λ q. omega arith), ← task-added g p (λ q. omega arith) (λ q. omega arith)) (taken-task (t .0) (t .1) (room (t .0)))
       go (inr (inr t)) = rw (piece-next (p .placed) _ (t .0) refl, piece-added _ (t .0) refl) (of-piece (t .0) (t .1) _ refl)
 
 -- ---- a whole file
@@ -251,40 +247,40 @@ next-count : (f : Field) (n : ℕ) → nextField f n .count ≡ 0
 unfolding nextField
 next-count f n = go (eqb (tag f) 3)
   where
-    go : (b : Bool) → cond b (fieldAt (f .pieces) (further (f .place) (3 + lengthFor (tag f))) (f .end) (cond (pieceTaken f n) (f .misshapen) true)) (fieldAt (f .pieces) (further (f .place) (3 + lengthFor (tag f))) (further (f .place) (3 + lengthFor (tag f))) (f .misshapen)) .count ≡ 0
+    go : (b : Bool) → cond b (fieldAt (f .pieces) (further (f .place) (f .count)) (f .end) (cond (pieceTaken f n) (f .misshapen) true)) (fieldAt (f .pieces) (further (f .place) (f .count)) (further (f .place) (f .count)) (f .misshapen)) .count ≡ 0
     go true = refl
     go false = refl
 
 -- one byte that is read without a refusal
 step-held : (o : Bool) (s : List ℕ) (f : Field) (p : Plan) (b : ℕ) → Held o s f p → f .count < 3 + lengthFor (tag f) → b < 256 → length s + 1 ≤ 18446744073709551615
-    → step (reader f p) b .field .answer ≡ Accepted → Held o (s ++ (b ∷ [])) (step (reader f p) b .field) (step (reader f p) b .plan) × (step (reader f p) b .field .count < 3 + lengthFor (tag (step (reader f p) b .field)))
-step-held o s f p b h l small most a = rw (step-good f p b (h .answer)) (go _ refl (rw (step-good f p b (h .answer)) at a))
+    → step (reader f p) b .field .bad ≡ 0 → Held o (s ++ (b ∷ [])) (step (reader f p) b .field) (step (reader f p) b .plan) × (step (reader f p) b .field .count < 3 + lengthFor (tag (step (reader f p) b .field)))
+step-held o s f p b h l small most a = rw (step-good f p b (h .bad)) (go (ℕ-discrete (verdict (hold f b) (p .count)) 0) (ℕ-discrete (verdict (hold f b) (p .count)) 1) (rw (step-good f p b (h .bad)) at a))
   where
     held : Held o (s ++ (b ∷ [])) (hold f b) p
     held = hold-held o s f p b h (omega (arith, length-most (tag f))) small
 
-    go : (v : Verdict) → verdict (hold f b) (p .count) ≡ v → settled (verdict (hold f b) (p .count)) (hold f b) p .field .answer ≡ Accepted
+    go : Dec (verdict (hold f b) (p .count) ≡ 0) → Dec (verdict (hold f b) (p .count) ≡ 1) → settled (verdict (hold f b) (p .count)) (hold f b) p .field .bad ≡ 0
         → Held o (s ++ (b ∷ [])) (settled (verdict (hold f b) (p .count)) (hold f b) p .field) (settled (verdict (hold f b) (p .count)) (hold f b) p .plan)
         × (settled (verdict (hold f b) (p .count)) (hold f b) p .field .count < 3 + lengthFor (tag (settled (verdict (hold f b) (p .count)) (hold f b) p .field)))
-    go Waits e q = rw e (held, waits-short (hold f b) (p .count) e)
-    go (Bad x) e q = accepted-not-refused {x = x} q (rw e)
-    go Good e q =
+    go (yes e) w q =
         let d : Found (hold f b) = good-found (hold f b) (p .count) e in
         let whole : hold f b .count ≡ 3 + lengthFor (tag (hold f b)) = omega (arith, hold-short f b l, d .whole) in
-        rw e (taken-held o (s ++ (b ∷ [])) (hold f b) p held d whole (omega (arith, length-append s (b ∷ []))) (good-room (hold f b) (p .count) e), omega (arith, next-count (hold f b) (p .placed)))
+        rw e (taken-held o (s ++ (b ∷ [])) (hold f b) p held d whole (omega (arith, length-append s (b ∷ []))) (λ t. good-room (hold f b) (p .count) e (λ r. omega arith) (λ r. omega arith)), omega (arith, next-count (hold f b) (p .placed)))
+    go (no z) (yes e) q = rw e (held, waits-short (hold f b) (p .count) e)
+    go (no z) (no w) q = absurd (z (sym (ap (λ (r : Reader). r .field .bad) (settled-bad (verdict (hold f b) (p .count)) (hold f b) p z w)) ∙ q))
 
 -- a file that is read without a refusal
 pub read-held : (o : Bool) (bs s : List ℕ) (f : Field) (p : Plan) → Held o s f p → f .count < 3 + lengthFor (tag f) → ((i : ℕ) → getD bs i 0 < 256) → length s + length bs ≤ 18446744073709551615
-    → read (reader f p) bs .field .answer ≡ Accepted → Held o (s ++ bs) (read (reader f p) bs .field) (read (reader f p) bs .plan)
+    → read (reader f p) bs .field .bad ≡ 0 → Held o (s ++ bs) (read (reader f p) bs .field) (read (reader f p) bs .plan)
 unfolding read
 read-held o [] s f p h l small most a = rw append-nil h
-read-held o (b ∷ bs) s f p h l small most a = go _ refl (read-held o bs (s ++ (b ∷ [])))
+read-held o (b ∷ bs) s f p h l small most a = go (ℕ-discrete (step (reader f p) b .field .bad) 0) (read-held o bs (s ++ (b ∷ [])))
   where
-    go : (x : Answer) → step (reader f p) b .field .answer ≡ x
+    go : Dec (step (reader f p) b .field .bad ≡ 0)
         → ((g : Field) (q : Plan) → Held o (s ++ (b ∷ [])) g q → g .count < 3 + lengthFor (tag g) → ((i : ℕ) → getD bs i 0 < 256) → length (s ++ (b ∷ [])) + length bs ≤ 18446744073709551615
-        → read (reader g q) bs .field .answer ≡ Accepted → Held o ((s ++ (b ∷ [])) ++ bs) (read (reader g q) bs .field) (read (reader g q) bs .plan))
+        → read (reader g q) bs .field .bad ≡ 0 → Held o ((s ++ (b ∷ [])) ++ bs) (read (reader g q) bs .field) (read (reader g q) bs .plan))
         → Held o (s ++ (b ∷ bs)) (read (step (reader f p) b) bs .field) (read (step (reader f p) b) bs .plan)
-    go (Refused x) e ih = accepted-not-refused a (ap (λ (r : Reader). r .field .answer) (read-refused _ _ x bs e) ∙ e)
-    go Accepted e ih =
+    go (no e) ih = absurd (e (sym (ap (λ (r : Reader). r .field .bad) (read-refused (step (reader f p) b .field) (step (reader f p) b .plan) bs e)) ∙ a))
+    go (yes e) ih =
         let n : Held o (s ++ (b ∷ [])) (step (reader f p) b .field) (step (reader f p) b .plan) × (step (reader f p) b .field .count < 3 + lengthFor (tag (step (reader f p) b .field))) = step-held o s f p b h l (small 0) (omega arith) e in
         rw append-assoc at (ih (step (reader f p) b .field) (step (reader f p) b .plan) (n .0) (n .1) (λ i. small (suc i)) (omega (arith, length-append s (b ∷ []))) a)

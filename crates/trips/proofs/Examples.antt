@@ -9,7 +9,9 @@ use Rattle.tasks.specs.declared.Place.{Place}
 use Rattle.tasks.specs.declared.Refusal.the-variants.{CutShort, WrongTag, WrongLength, CoresAt, ValuesAt, TasksAt}
 use Rattle.tasks.specs.declared.Table.{Table}
 use Rattle.writing.specs.Fields.{tableBytes, tasksBytes, coreField, taskField, row}
-use Rattle.reading.specs.Reading.{tableRead, tableClosed, read, step, verdict, hold, tagFits, values, nextField, added, further, endedAfter}
+use Rattle.tasks.specs.Places.{further}
+use Rattle.fields.specs.Fields.{read, step, verdict, hold, tagFits, values, nextField, added}
+use Rattle.reading.specs.Reading.{refusal, ended, tableClosed, tableRead}
 
 abbrev example : List ℕ
 example = 1 ∷ 0 ∷ 1 ∷ 2 ∷ 2 ∷ 0 ∷ 12 ∷ 0 ∷ 0 ∷ 0 ∷ 6 ∷ 0 ∷ 0 ∷ 0 ∷ 10 ∷ 0 ∷ 0 ∷ 0 ∷ 10 ∷ []
@@ -37,5 +39,5 @@ pub record SmallFiles : Type 0 where
   pub long-period : tableRead (tasks 1 1000001) .answer ≡ Refused (ValuesAt (at 0))
 
 pub small-files : SmallFiles
-unfolding tableBytes tasksBytes coreField taskField row tableRead tableClosed read step verdict hold tagFits values nextField added further endedAfter
+unfolding tableBytes tasksBytes coreField taskField row tableRead tableClosed read step verdict hold tagFits values nextField added further ended refusal
 small-files = record { written = refl; read-back = refl; no-task = refl; short-tail = refl; second-count = refl; wrong-length = refl; many-cores = refl; most-tasks = refl; many-tasks = refl; long-period = refl }

@@ -3,25 +3,27 @@ use mathlib.Core.Path.{_≡_, refl, sym, ap, _∙_}
 use mathlib.Core.Bool.{Bool, true, false, not, _&&_, cond}
 use mathlib.Core.List.{List, [], _∷_, _++_, append-assoc, append-nil}
 use Prim.Native.Nat.{ℕ, zero, suc, _+_, _≤_, _<_}
+use native.Mathlib.Decide.{ℕ-discrete}
 use native.Mathlib.Omega.{arith}
 use lib.Arith.{le-zero}
 use lib.Dec.{ltb, eqb}
 use lib.ListN.{length, getD, take}
-use borrow.Author.Tests.{ltb-false, eqb-false, le-leb}
+use borrow.Author.Tests.{ltb-false, eqb-false, eq-eqb, ne-eqb, le-leb}
 use Rattle.tasks.proofs.Bools.{both-make}
 use Rattle.tasks.proofs.Tables.{all-good}
+use Rattle.tasks.specs.Refusals.{number}
 use Rattle.tasks.specs.Tables.{noTask, checkedTable, checkedTasks, andThen}
 use Rattle.tasks.specs.declared.Answer.{Answer}
 use Rattle.tasks.specs.declared.Answer.the-variants.{Accepted, Refused}
-use Rattle.tasks.specs.declared.Refusal.{Refusal}
 use Rattle.tasks.specs.declared.Refusal.the-variants.{NoPlanShape}
 use Rattle.tasks.specs.declared.Table.{Table}
 use Rattle.plans.specs.Pieces.{noPiece, taskOf, pieceOf}
 use Rattle.shapes.specs.Shape.{checkedPlan, shape}
 use Rattle.plans.specs.declared.Plan.{Plan}
 use Rattle.writing.specs.Fields.{coreField, taskField, row, tasksBytes, tableBytes, planBytes}
-use Rattle.reading.specs.Reading.{defaultCores, fieldAt, read, begun, emptyPlan, endedAfter, planEnded, tableAnswered, planAnswered, tableClosed, tableRead, planClosed, planRead}
-use Rattle.reading.specs.declared.Field.{Field}
+use Rattle.fields.specs.Fields.{fieldAt, refusedField, read}
+use Rattle.reading.specs.Reading.{defaultCores, begun, emptyPlan, refusal, movedTo, ended, fieldsAnswer, endedAfter, planEnded, tableAnswered, planAnswered, tableClosed, tableRead, planClosed, planRead}
+use Rattle.fields.specs.declared.Field.{Field}
 use Rattle.trips.proofs.Accepted.{told, Content, Held, read-held, cleared, zero-byte}
 use Rattle.trips.proofs.Good.{accepted-not-refused}
 
@@ -34,7 +36,7 @@ begun-held : (o : Bool) → Held o [] (fieldAt o 0 0 false) (emptyPlan defaultCo
 unfolding told row
 begun-held o = record {
   kind = refl;
-  answer = refl;
+  bad = refl;
   whole = refl;
   ends = omega arith;
   size = refl;
@@ -58,29 +60,41 @@ begun-held o = record {
 
 -- the end of the fields
 pub record Ended (f : Field) (n : ℕ) : Type 0 where
-  pub answer : f .answer ≡ Accepted
+  pub bad : f .bad ≡ 0
   pub count : f .count ≡ 0
   pub some : 1 ≤ n
+
+-- the number that is kept of a bad field is its refusal's in document 01's table
+pub refusal-number : (x at : ℕ) → 1 ≤ x → x ≤ 6 → number (refusal x at) ≡ x
+unfolding refusal
+refusal-number zero at l h = absurd (omega arith)
+refusal-number (suc zero) at l h = refl
+refusal-number (suc (suc zero)) at l h = refl
+refusal-number (suc (suc (suc zero))) at l h = refl
+refusal-number (suc (suc (suc (suc zero)))) at l h = refl
+refusal-number (suc (suc (suc (suc (suc zero))))) at l h = refl
+refusal-number (suc (suc (suc (suc (suc (suc zero)))))) at l h = refl
+refusal-number (suc (suc (suc (suc (suc (suc (suc x))))))) at l h = absurd (omega arith)
 
 positive : (n : ℕ) → (n ≡ 0 → ⊥) → 1 ≤ n
 positive zero h = absurd (h refl)
 positive (suc n) h = omega arith
 
 ended-says : (f : Field) (n : ℕ) → endedAfter f n ≡ Accepted → Ended f n
-unfolding endedAfter
-ended-says f n h = answered _ refl
+unfolding ended
+ended-says f n h = first (ℕ-discrete (f .bad) 0)
   where
-    third : (b : Bool) (x : Refusal) → eqb n 0 ≡ b → cond b (Refused x) Accepted ≡ Accepted → 1 ≤ n
-    third true x e q = accepted-not-refused q refl
-    third false x e q = positive n (eqb-false n 0 e)
+    third : (b : Bool) → eqb n 0 ≡ b → fieldsAnswer (cond b (refusedField (movedTo f (f .end)) 6) f) ≡ Accepted → 1 ≤ n
+    third true e q = accepted-not-refused q refl
+    third false e q = positive n (eqb-false n 0 e)
 
-    second : (b : Bool) (x y : Refusal) → ltb 0 (f .count) ≡ b → f .answer ≡ Accepted → cond b (Refused x) (cond (eqb n 0) (Refused y) Accepted) ≡ Accepted → Ended f n
-    second true x y e a q = accepted-not-refused q refl
-    second false x y e a q = record { answer = a; count = le-zero (ltb-false 0 (f .count) e); some = third _ y refl q }
+    second : (b : Bool) → ltb 0 (f .count) ≡ b → f .bad ≡ 0 → fieldsAnswer (cond b (refusedField f 1) (cond (eqb n 0) (refusedField (movedTo f (f .end)) 6) f)) ≡ Accepted → Ended f n
+    second true e a q = accepted-not-refused q refl
+    second false e a q = record { bad = a; count = le-zero (ltb-false 0 (f .count) e); some = third _ refl q }
 
-    answered : (a : Answer) → f .answer ≡ a → Ended f n
-    answered (Refused x) e = accepted-not-refused {x = x} h (rw e)
-    answered Accepted e = second _ _ _ refl e (rw e at h)
+    first : Dec (f .bad ≡ 0) → Ended f n
+    first (yes a) = second _ refl a (rw (eq-eqb (f .bad) 0 a) at h)
+    first (no a) = accepted-not-refused {x = refusal (f .bad) (f .place)} h (simp (ne-eqb (f .bad) 0 a))
 
 -- ---- told again
 
@@ -124,16 +138,16 @@ table-told p e = rw e (rw append-nil)
 -- ---- a whole file
 
 -- a file that was read without a refusal so far
-reading : (o : Bool) (s : List ℕ) → Slice s → read (begun o) s .field .answer ≡ Accepted → Held o s (read (begun o) s .field) (read (begun o) s .plan)
+reading : (o : Bool) (s : List ℕ) → Slice s → read (begun o) s .field .bad ≡ 0 → Held o s (read (begun o) s .field) (read (begun o) s .plan)
 reading o s lent a = read-held o s [] (fieldAt o 0 0 false) (emptyPlan defaultCores) (begun-held o) (omega arith) (lent .small) (omega (arith, lent .most)) a
 
 -- the place that is told of a field is where its first byte stands
-pub place-is : (o : Bool) (s : List ℕ) → Slice s → read (begun o) s .field .answer ≡ Accepted → read (begun o) s .field .place + read (begun o) s .field .count ≡ length s
+pub place-is : (o : Bool) (s : List ℕ) → Slice s → read (begun o) s .field .bad ≡ 0 → read (begun o) s .field .place + read (begun o) s .field .count ≡ length s
 place-is o s lent a = reading o s lent a .whole
 
 module _ (o : Bool) (s : List ℕ) (lent : Slice s) (e : Ended (read (begun o) s .field) (read (begun o) s .plan .count)) where
   held : Held o s (read (begun o) s .field) (read (begun o) s .plan)
-  held = reading o s lent (e .answer)
+  held = reading o s lent (e .bad)
 
   module _ (m : read (begun o) s .field .misshapen ≡ false) where
     content : Content o (held .named) s (read (begun o) s .field) (read (begun o) s .plan)

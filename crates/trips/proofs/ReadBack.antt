@@ -10,24 +10,23 @@ use lib.Seq.{getD-set-other}
 use borrow.Author.Tests.{le-leb, lt-leb, lt-ltb}
 use Rattle.tasks.proofs.Tables.{Ranges, values-say}
 use Rattle.tasks.specs.Tables.{coresFit, valuesFit}
-use Rattle.tasks.specs.declared.Answer.the-variants.{Accepted}
 use Rattle.tasks.specs.declared.Task.{Task}
 use Rattle.plans.specs.declared.Kind.{Kind}
 use Rattle.plans.specs.declared.Kind.the-variants.{Whole, Share}
 use Rattle.plans.specs.declared.Piece.{Piece}
 use Rattle.plans.specs.declared.Plan.{Plan}
-use Rattle.reading.specs.Reading.{number2, number4, tag, tagFits, lengthFor, kindOf, values, verdict, hold, fieldAt, further, pieceTaken, nextField, withTask, withPiece, added, settled, step, read, begun, emptyPlan}
+use Rattle.tasks.specs.Places.{further}
+use Rattle.fields.specs.Fields.{number2, number4, tag, tagFits, lengthFor, kindOf, values, verdict, hold, fieldAt, pieceTaken, nextField, withTask, withPiece, added, settled, step, read}
+use Rattle.reading.specs.Reading.{begun, emptyPlan}
 use Rattle.writing.specs.Fields.{bytes4, kindByte, coreField, taskField, pieceField}
-use Rattle.reading.specs.declared.Field.{Field}
-use Rattle.reading.specs.declared.Reader.{Reader}
-use Rattle.reading.specs.declared.Verdict.{Verdict}
-use Rattle.reading.specs.declared.Verdict.the-variants.{Waits}
+use Rattle.fields.specs.declared.Field.{Field}
+use Rattle.fields.specs.declared.Reader.{Reader}
 use Rattle.trips.proofs.Numbers.{number-back}
-use Rattle.reading.proofs.Reading.{reader, body-waits, body-whole, step-good, hold-answer}
+use Rattle.fields.proofs.Fields.{reader, body-waits, body-whole, step-good, hold-bad}
 
 -- a byte more, where there is room for it
 pub hold-is : (f : Field) (b : ℕ) → f .count < 15
-    → hold f b ≡ record { pieces = f .pieces; answer = f .answer; place = f .place; end = f .end; misshapen = f .misshapen; count = f .count + 1; bytes = set (f .bytes) (f .count) b }
+    → hold f b ≡ record { pieces = f .pieces; bad = f .bad; place = f .place; end = f .end; misshapen = f .misshapen; count = f .count + 1; bytes = set (f .bytes) (f .count) b }
 unfolding hold
 hold-is f b h = rw (lt-ltb (f .count) 15 h)
 
@@ -39,7 +38,7 @@ pub record Headed (f : Field) (n : ℕ) : Type 0 where
   pub size : number2 (f .bytes) 1 ≡ lengthFor (tag f)
 
 module _ (f : Field) (n : ℕ) (h : Headed f n) where
-  pub headed-waits : f .count < 3 + lengthFor (tag f) → verdict f n ≡ Waits
+  pub headed-waits : f .count < 3 + lengthFor (tag f) → verdict f n ≡ 1
   headed-waits l = sym (body-waits f n (h .whole) (h .fits) (h .room) (h .size) l)
 
   pub headed-whole : 3 + lengthFor (tag f) ≤ f .count → verdict f n ≡ values f
@@ -78,26 +77,26 @@ length-most g = go (eqb g 1) (eqb g 2)
     go false false = omega arith
 
 -- a body is held as it comes in, and judged with its last byte
-pub read-body : (bs : List ℕ) (z : ℕ) (f : Field) (p : Plan) → f .answer ≡ Accepted → Headed f (p .count) → f .count + length bs + 1 ≡ 3 + lengthFor (tag f)
+pub read-body : (bs : List ℕ) (z : ℕ) (f : Field) (p : Plan) → f .bad ≡ 0 → Headed f (p .count) → f .count + length bs + 1 ≡ 3 + lengthFor (tag f)
     → read (reader f p) (bs ++ (z ∷ [])) ≡ settled (values (hold (holds f bs) z)) (hold (holds f bs) z) p
 unfolding read holds
 read-body [] z f p a h e =
     let l : f .count < 15 = omega (arith, length-most (tag f)) in
-    step-good f p z a ∙ ap (λ (v : Verdict). settled v (hold f z) p) (headed-whole (hold f z) (p .count) (headed-hold f _ h z l) (rw (hold-tag f _ h z l, hold-count f _ h z l) (omega arith)))
+    step-good f p z a ∙ ap (λ (v : ℕ). settled v (hold f z) p) (headed-whole (hold f z) (p .count) (headed-hold f _ h z l) (rw (hold-tag f _ h z l, hold-count f _ h z l) (omega arith)))
 read-body (b ∷ bs) z f p a h e =
     let l : f .count < 15 = omega (arith, length-most (tag f)) in
     let g : Headed (hold f b) (p .count) = headed-hold f _ h b l in
-    let waits : step (reader f p) b ≡ reader (hold f b) p = step-good f p b a ∙ ap (λ (v : Verdict). settled v (hold f b) p) (headed-waits (hold f b) (p .count) g (rw (hold-tag f _ h b l, hold-count f _ h b l) (omega arith))) in
-    ap (λ (r : Reader). read r (bs ++ (z ∷ []))) waits ∙ read-body bs z (hold f b) p (hold-answer f b ∙ a) g (rw (hold-tag f _ h b l, hold-count f _ h b l) (omega arith))
+    let waits : step (reader f p) b ≡ reader (hold f b) p = step-good f p b a ∙ ap (λ (v : ℕ). settled v (hold f b) p) (headed-waits (hold f b) (p .count) g (rw (hold-tag f _ h b l, hold-count f _ h b l) (omega arith))) in
+    ap (λ (r : Reader). read r (bs ++ (z ∷ []))) waits ∙ read-body bs z (hold f b) p (hold-bad f b ∙ a) g (rw (hold-tag f _ h b l, hold-count f _ h b l) (omega arith))
 
 -- the field at a place, of which the header was read
 abbrev header : Bool → ℕ → ℕ → Bool → ℕ → ℕ → ℕ → Field
-header o q e w a b c = record { pieces = o; answer = Accepted; place = q; end = e; misshapen = w; count = 3; bytes = a ∷ b ∷ c ∷ replicate 12 0 }
+header o q e w a b c = record { pieces = o; bad = 0; place = q; end = e; misshapen = w; count = 3; bytes = a ∷ b ∷ c ∷ replicate 12 0 }
 
 module _ (o : Bool) (q e : ℕ) (w : Bool) (p : Plan) where
   read-header : (a b c : ℕ) (bs : List ℕ) → Headed (header o q e w a b c) (p .count) → 0 < lengthFor a → read (reader (fieldAt o q e w) p) (a ∷ b ∷ c ∷ bs) ≡ read (reader (header o q e w a b c) p) bs
   unfolding read step hold verdict
-  read-header a b c bs h l = ap (λ (v : Verdict). read (settled v (header o q e w a b c) p) bs) (headed-waits (header o q e w a b c) (p .count) h (omega arith))
+  read-header a b c bs h l = ap (λ (v : ℕ). read (settled v (header o q e w a b c) p) bs) (headed-waits (header o q e w a b c) (p .count) h (omega arith))
 
   read-written : (a b c : ℕ) (bs : List ℕ) (z : ℕ) → Headed (header o q e w a b c) (p .count) → 0 < lengthFor a → length bs + 1 ≡ lengthFor a
       → read (reader (fieldAt o q e w) p) (a ∷ b ∷ c ∷ (bs ++ (z ∷ []))) ≡ settled (values (hold (holds (header o q e w a b c) bs) z)) (hold (holds (header o q e w a b c) bs) z) p
@@ -121,7 +120,7 @@ read-task o q w p t l v =
     let c : number4 (bytes4 (t .cost)) 0 ≡ t .cost = number-back (t .cost) (omega arith) in
     let d : number4 (bytes4 (t .deadline)) 0 ≡ t .deadline = number-back (t .deadline) (omega arith) in
     let y : number4 (bytes4 (t .period)) 0 ≡ t .period = number-back (t .period) (omega arith) in
-    read-written o q q w p 2 0 12 (bytes4 (t .cost) ++ (bytes4 (t .deadline) ++ first3 (t .period))) (t .period % 256) (record { whole = omega arith; fits = le-leb q q (omega arith); room = lt-leb 64 (p .count) l; size = refl }) (omega arith) refl ∙ rw (c, d, y, v) (rw (c, d, y))
+    read-written o q q w p 2 0 12 (bytes4 (t .cost) ++ (bytes4 (t .deadline) ++ first3 (t .period))) (t .period % 256) (record { whole = omega arith; fits = le-leb q q (omega arith); room = lt-leb 64 (p .count) l; size = refl }) (omega arith) refl ∙ rw (c, d, y, v)
 
 pub kind-back : (k : Kind) → kindOf (kindByte k) ≡ k
 kind-back Whole = refl

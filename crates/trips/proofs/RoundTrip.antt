@@ -20,13 +20,15 @@ use Rattle.shapes.specs.Shape.{checkedPlan}
 use Rattle.plans.specs.declared.Piece.{Piece}
 use Rattle.plans.specs.declared.Plan.{Plan}
 use Rattle.writing.specs.Fields.{coreField, taskField, pieceField, row, tasksBytes, tableBytes, planBytes}
-use Rattle.reading.specs.Reading.{fieldAt, further, read, begun, emptyPlan, endedAfter, tableClosed, tableRead, planEnded, planClosed, planRead}
-use Rattle.reading.specs.declared.Field.{Field}
-use Rattle.reading.specs.declared.Reader.{Reader}
+use Rattle.tasks.specs.Places.{further}
+use Rattle.fields.specs.Fields.{fieldAt, read}
+use Rattle.reading.specs.Reading.{begun, emptyPlan, ended, tableClosed, tableRead, planEnded, planClosed, planRead}
+use Rattle.fields.specs.declared.Field.{Field}
+use Rattle.fields.specs.declared.Reader.{Reader}
 use Rattle.trips.proofs.Good.{values-fit, counts-fit, plan-accepted}
 use Rattle.trips.proofs.Same.{shape-same, tasks-same, costs-fit}
 use Rattle.trips.proofs.ReadBack.{read-cores, read-task, read-piece}
-use Rattle.reading.proofs.Reading.{reader}
+use Rattle.fields.proofs.Fields.{reader}
 use Rattle.trips.proofs.InParts.{read-parts}
 
 pub further-is : (p n : ℕ) → p + n ≤ 18446744073709551615 → further p n ≡ p + n
@@ -74,7 +76,7 @@ abbrev pub cleanTable : Table → Table
 cleanTable t = record { cores = t .cores; count = t .count; tasks = padded 64 (t .count) noTask (taskOfTable t) }
 
 table-closes : (o : Bool) (q m n : ℕ) (ts : ℕ → Task) (pc : ℕ → Piece) → 1 ≤ n → tableClosed (reader (fieldAt o q q false) (planOf m n ts 0 pc)) ≡ record { answer = Accepted; table = record { cores = m; count = n; tasks = padded 64 n noTask ts } }
-unfolding tableClosed endedAfter
+unfolding tableClosed ended
 table-closes o q m n ts pc h = rw (ne-eqb n 0 (λ e. omega arith))
 
 -- what is written of a good table reads back to the same table
@@ -109,8 +111,8 @@ module _ (m n : ℕ) (ts : ℕ → Task) (pc : ℕ → Piece) where
   read-pieces h zero l v = read-none (behind 0) (λ j. pieceField (pc j))
   read-pieces h (suc k) l v = read-row (behind 0) k (λ j. pieceField (pc j)) ∙ ap (λ (r : Reader). read r (pieceField (pc k))) (read-pieces h k (omega arith) (λ j b. v j (omega arith))) ∙ piece-more k h l (v k (omega arith))
 
-plan-closes : (f : Field) (p : Plan) → f .answer ≡ Accepted → f .count ≡ 0 → f .misshapen ≡ false → 1 ≤ p .count → checkedPlan p ≡ Accepted → planClosed (reader f p) ≡ record { answer = Accepted; plan = p }
-unfolding planClosed planEnded endedAfter
+plan-closes : (f : Field) (p : Plan) → f .bad ≡ 0 → f .count ≡ 0 → f .misshapen ≡ false → 1 ≤ p .count → checkedPlan p ≡ Accepted → planClosed (reader f p) ≡ record { answer = Accepted; plan = p }
+unfolding planClosed planEnded ended
 plan-closes f p a b c d h = rw (a, b, ne-eqb (p .count) 0 (λ e. omega arith), c, h)
 
 clean-good : (p : Plan) → GoodPlan p → GoodPlan (cleanPlan p)

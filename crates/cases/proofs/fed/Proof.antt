@@ -5,7 +5,7 @@ use Rattle.cases.proofs.fed.Tie as tie
 use Rattle.cases.proofs.fed.Reads as reads
 use Rattle.cases.proofs.fed.Lts as lts
 use Rattle.reading.proofs.close_table.Reads as close-table-reads
-use Rattle.reading.proofs.feed.Reads as feed-reads
+use Rattle.fields.proofs.feed.Reads as feed-reads
 use Rattle.reading.proofs.start_table.Reads as start-table-reads
 
 abbrev Inv-loop : tie.InvT-loop

@@ -1,0 +1,8 @@
+-- Places in a file, in bytes from its start.
+use mathlib.Core.Bool.{cond}
+use Prim.Native.Nat.{ℕ, _+_, _-_}
+use lib.Dec.{leb}
+
+-- the place n bytes further on; places stop at the largest number that a machine word holds
+unfoldable pub further : ℕ → ℕ → ℕ
+further p n = cond (leb p (18446744073709551615 - n)) (p + n) 18446744073709551615
