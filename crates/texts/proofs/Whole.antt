@@ -11,7 +11,7 @@ use lib.ListN.{length, length-append, length-set, length-replicate}
 use lib.Seq.{take-suc-set}
 use borrow.Author.Tests.{lt-ltb}
 use Rattle.writing.specs.Fields.{row}
-use Rattle.texts.specs.Text.{put, puts, textOf, bytesOf, noText, ascii, digits}
+use Rattle.texts.specs.Text.{put, puts, textOf, bytesOf, noText, digits}
 use Rattle.texts.specs.declared.Text.{Text}
 
 -- ---- a text with room holds what is put
