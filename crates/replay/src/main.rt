@@ -77,10 +77,9 @@ fn fill(bytes: &mut [u8], n: usize) -> bool {
 }
 
 fn main() {
-    let mut head = [0u8; 2];
     let mut file = io::large_buffer();
-    let is_told = io::read_full(STDIN_FILENO, &mut head) == 2;
-    let length = wide(head[0]) * 256 + wide(head[1]);
+    let is_told = fill(&mut file, 2);
+    let length = wide(file[0]) * 256 + wide(file[1]);
     let is_whole = fill(&mut file, length);
     if !is_told | !is_whole {
         console::print(telling::refusal(Text::empty(), Refusal::CutShort(Place(0))));
