@@ -22,12 +22,12 @@ use Rattle.plans.specs.declared.Piece.{Piece}
 use Rattle.plans.specs.declared.Plan.{Plan}
 use Rattle.jobs.specs.Jobs.{noJob, noRun, byRunner, onceReleased, names}
 use Rattle.rules.specs.States.{jobOf, lastOf, SameState, wellMade}
-use Rattle.dispatch.specs.Refusing.{notRun, tooSoon, stillActive, lowest, judgedSets, judged}
+use Rattle.sets.specs.Refusing.{notRun, tooSoon, stillActive, lowest, judgedSets}
+use Rattle.dispatch.specs.Tick.{judged, answered, tick}
 use Rattle.rules.specs.Rules.{eachJob, finishedJob, finish, turnsLate, markedJob, markLate, firstPiece, releasedJob, release, pieceAt, standsOn, beats, highest, chosen, runsNow, ranJob, run, preempted, countPreempted, agedJob, age}
 use Rattle.jobs.specs.Sets.{member, SameSet}
 use Rattle.rules.specs.Sound.{Sound, AtPieces}
 use Rattle.rules.specs.Advance.{nextState, checked}
-use Rattle.dispatch.specs.Tick.{answered, tick}
 use Rattle.made.specs.WellMade.{pieceExists, jobWellMade, coreWellMade}
 use Rattle.jobs.specs.declared.CoreRun.{CoreRun}
 use Rattle.jobs.specs.declared.Job.{Job}

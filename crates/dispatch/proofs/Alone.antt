@@ -10,9 +10,8 @@ use Rattle.tasks.proofs.Bools.{clash}
 use Rattle.plans.specs.declared.Plan.{Plan}
 use Rattle.jobs.specs.Jobs.{noRun, names}
 use Rattle.rules.specs.States.{lastOf}
-use Rattle.dispatch.specs.Refusing.{judged}
+use Rattle.dispatch.specs.Tick.{judged, tick}
 use Rattle.rules.specs.Advance.{nextState}
-use Rattle.dispatch.specs.Tick.{tick}
 use Rattle.jobs.specs.declared.Runner.{Runner}
 use Rattle.rules.specs.declared.State.{State}
 use Rattle.jobs.specs.declared.Tasks.{Tasks}

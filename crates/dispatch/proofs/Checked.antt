@@ -11,7 +11,8 @@ use Rattle.rules.specs.States.{wellMade}
 use Rattle.rules.specs.declared.Advanced.{Advanced}
 use Rattle.rules.specs.declared.State.{State}
 use Rattle.rules.proofs.Checked.{both-accepted, Ready, ready-checked}
-use Rattle.dispatch.specs.Refusing.{judgedSets, judged}
+use Rattle.sets.specs.Refusing.{judgedSets}
+use Rattle.dispatch.specs.Tick.{judged}
 
 -- an accepted tick is of an accepted plan, a well made state and accepted sets
 pub record Taken (p : Plan) (s : State) (fs rs : Tasks) : Type 0 where

@@ -17,10 +17,9 @@ use Rattle.tasks.proofs.Bools.{either, both, both-make}
 use Rattle.plans.specs.declared.Plan.{Plan}
 use Rattle.jobs.specs.Jobs.{noJob, noRun, byRunner, isActive, onceReleased, names}
 use Rattle.rules.specs.States.{freshState, jobOf, lastOf, CleanState, wellMade}
-use Rattle.dispatch.specs.Refusing.{judged}
+use Rattle.dispatch.specs.Tick.{judged, answered, tick}
 use Rattle.rules.specs.Rules.{eachJob, finish, markLate, release, standsOn, highest, runsNow, ranJob, run, countPreempted, agedJob, age}
 use Rattle.rules.specs.Advance.{nextState}
-use Rattle.dispatch.specs.Tick.{answered, tick}
 use Rattle.made.specs.WellMade.{jobWellMade, coreWellMade}
 use Rattle.jobs.specs.declared.CoreRun.{CoreRun}
 use Rattle.jobs.specs.declared.Runner.{Runner}

@@ -1,4 +1,3 @@
-pub mod Judging
 pub mod Checked
 pub mod Kept
 pub mod Alone

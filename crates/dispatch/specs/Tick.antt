@@ -1,14 +1,19 @@
 -- One tick: the rules in their order, or a refusal.
 use lib.ListN.{replicate}
+use Rattle.tasks.specs.Tables.{andThen}
 use Rattle.tasks.specs.declared.Answer.{Answer}
 use Rattle.tasks.specs.declared.Answer.the-variants.{Accepted, Refused}
 use Rattle.plans.specs.declared.Plan.{Plan}
 use Rattle.jobs.specs.Jobs.{noRun}
 use Rattle.jobs.specs.declared.Tasks.{Tasks}
-use Rattle.rules.specs.Advance.{nextState}
+use Rattle.rules.specs.Advance.{checked, nextState}
 use Rattle.rules.specs.declared.State.{State}
-use Rattle.dispatch.specs.Refusing.{judged}
+use Rattle.sets.specs.Refusing.{judgedSets}
 use Rattle.dispatch.specs.declared.Ticked.{Ticked}
+
+-- when a tick is refused: 4, 6, 5 and 8 for the plan, 9 for the state, then 10, 11 and 12 for the sets
+unfoldable pub judged : Plan → State → Tasks → Tasks → Answer
+judged p s fs rs = andThen (checked p s) (judgedSets p s fs rs)
 
 -- on a refusal nothing runs and the state is the one given
 abbrev pub refused : Answer → State → Ticked

@@ -16,8 +16,8 @@ use Rattle.jobs.specs.Sets.{member}
 use Rattle.made.specs.WellMade.{jobWellMade, coreWellMade}
 use Rattle.rules.specs.States.{wellMade}
 use Rattle.rules.specs.Rules.{eachJob, finish, markLate, firstPiece, release, highest, run, age, preempted, countPreempted}
-use Rattle.dispatch.specs.Refusing.{lowest, judgedSets, judged}
-use Rattle.dispatch.specs.Tick.{tick}
+use Rattle.sets.specs.Refusing.{lowest, judgedSets}
+use Rattle.dispatch.specs.Tick.{judged, tick}
 use Rattle.rules.specs.Advance.{checked, nextState}
 use Rattle.examples.specs.Example.{holds, allHold}
 use Rattle.examples.specs.Document.{document}

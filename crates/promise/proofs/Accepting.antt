@@ -12,7 +12,8 @@ use Rattle.tasks.specs.declared.Refusal.the-variants.{NotRun, TooSoon, StillAct
 use Rattle.tasks.specs.declared.TaskNo.{TaskNo}
 use Rattle.shapes.specs.Shape.{checkedPlan}
 use Rattle.plans.specs.declared.Plan.{Plan}
-use Rattle.dispatch.specs.Refusing.{notRun, tooSoon, stillActive, lowest, judgedSets, judged}
+use Rattle.sets.specs.Refusing.{notRun, tooSoon, stillActive, lowest, judgedSets}
+use Rattle.dispatch.specs.Tick.{judged}
 use Rattle.rules.specs.Rules.{finish}
 use Rattle.jobs.specs.Sets.{member}
 use Rattle.rules.specs.States.{wellMade}

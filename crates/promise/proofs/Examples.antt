@@ -23,8 +23,8 @@ use Rattle.layout.specs.Limit.{allowance, limitOf}
 use Rattle.layout.specs.Shared.{giveShare, close, shareFrom}
 use Rattle.layout.specs.Whole.{put, takesWhole}
 use Rattle.rules.specs.States.{freshState, wellMade}
-use Rattle.dispatch.specs.Refusing.{judged, judgedSets, lowest}
-use Rattle.dispatch.specs.Tick.{tick}
+use Rattle.sets.specs.Refusing.{judgedSets, lowest}
+use Rattle.dispatch.specs.Tick.{judged, tick}
 use Rattle.rules.specs.Rules.{eachJob, finish, markLate, release, run, age, countPreempted, preempted, highest, firstPiece}
 use Rattle.jobs.specs.Sets.{member}
 use Rattle.rules.specs.Advance.{checked, nextState}

@@ -18,8 +18,7 @@ use Rattle.plans.specs.Pieces.{taskOf, pieceOf}
 use Rattle.plans.specs.declared.Plan.{Plan}
 use Rattle.jobs.specs.Jobs.{noJob, noRun, names}
 use Rattle.rules.specs.States.{jobOf, freshState}
-use Rattle.dispatch.specs.Refusing.{judged}
-use Rattle.dispatch.specs.Tick.{answered, tick}
+use Rattle.dispatch.specs.Tick.{judged, answered, tick}
 use Rattle.rules.specs.Rules.{eachJob, total, turnsLate, finish, markLate, release, run, age, countPreempted}
 use Rattle.jobs.specs.Sets.{member}
 use Rattle.rules.specs.Advance.{nextState}

@@ -4,7 +4,6 @@ ghost use mathlib.Core.Path.{_≡_};
 ghost use Prim.Native.Nat.{ℕ, _+_, _≤_, _<_, min};
 ghost use Rattle.tasks.specs.Below.{tabulate, padded};
 ghost use Rattle.tasks.specs.declared.Answer.the-variants.{Accepted};
-ghost use Rattle.tasks.specs.declared.TaskNo.{TaskNo};
 ghost use Rattle.plans.specs.Pieces.{taskOf, pieceOf};
 ghost use Rattle.shapes.specs.Shape.{isLast, checkedPlan};
 ghost use Rattle.jobs.specs.Jobs.{noJob, noRun};

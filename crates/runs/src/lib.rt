@@ -12,9 +12,9 @@ use jobs::CoreRun;
 use jobs::Job;
 use jobs::Phase;
 use jobs::Runner;
-use rules::State;
 use jobs::Tasks;
 use plans::Plan;
+use rules::State;
 use tasks::Task;
 use tasks::TaskNo;
 

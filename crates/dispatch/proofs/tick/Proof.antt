@@ -2,9 +2,7 @@ use mathlib.Core.Path.{_≡_, sym, _∙_}
 use borrow.Author.Needs.{needs}
 use Rattle.tasks.specs.declared.Answer.the-variants.{Accepted}
 use Rattle.rules.specs.Advance.{checked}
-use Rattle.rules.proofs.Checked.{good, ready-checked}
-use Rattle.dispatch.specs.Refusing.{judged}
-use Rattle.dispatch.specs.Tick.{tick}
+use Rattle.dispatch.specs.Tick.{judged, tick}
 use Rattle.dispatch.proofs.Checked.{advance-answer, advance-next}
 use Rattle.dispatch.proofs.tick.Statement.{statement}
 use Rattle.dispatch.proofs.tick.Tie as tie
@@ -20,7 +18,7 @@ enum-told : tie.Need-enum-told
 enum-told c = search needs
 
 judge-sets-requires : tie.Need-judge-sets-requires
-judge-sets-requires c κs = let a = c .before .before .before .args in let g = good (a .plan) (ready-checked (a .plan) (a .state) (passed c) .plan) in (g .cores, g .count)
+judge-sets-requires c κs = search needs
 
 enum-told-2 : tie.Need-enum-told-2
 enum-told-2 c = search needs

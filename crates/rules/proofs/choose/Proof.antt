@@ -78,7 +78,7 @@ loop-again c =
     (search needs, λ s e. choose-turn p s (b .before .pre .0) _ e (b .loop .i) (c .before .before .before .before .before .before .before .if1 .taken) _ (b .loop .inv .1 s e) _ (c .before .before .before .before .before .index .ensures .0) _ _ _ (c .before .before .before .runner-no .ensures .0) (c .before .before .smaller .ensures) (c .better .ensures p s))
 
 returns : tie.Need-returns Inv-loop μ-loop
-returns c = λ s e. let b = c .before .before in let h : b .loop .i ≡ b .before .args .plan .count = omega arith in simp (b .loop .inv .1 s e, h)
+returns c = λ s e. let b = c .before .before in let h : b .loop .i ≡ b .before .args .plan .count = omega arith in rw (b .loop .inv .1 s e, h)
 
 pub choose-spec : {M : Type 1} → statement M
 choose-spec =

@@ -60,7 +60,7 @@ loop-again c = (search needs, search needs, λ p e. padded-turn 64 noJob _ _ _ _
 
 returns : tie.Need-returns Inv-loop μ-loop
 unfolding age eachJob
-returns c = λ p h q. let e : c .before .loop .i ≡ c .before .before .before .args .count = omega arith in simp (c .before .loop .inv .2 p q, e, h)
+returns c = λ p h q. let e : c .before .loop .i ≡ c .before .before .before .args .count = omega arith in rw (c .before .loop .inv .2 p q, e, h)
 
 pub age-spec : {M : Type 1} → statement M
 age-spec =

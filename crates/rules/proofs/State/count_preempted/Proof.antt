@@ -75,7 +75,7 @@ total-requires c κs = search needs
 
 returns : tie.Need-returns Inv-loop μ-loop
 unfolding countPreempted
-returns c = λ p after h j l. let b = c .before .before in let e : b .loop .x ≡ b .before .args .cores = omega arith in simp (c .total .ensures, b .loop .inv .3 after j l, e, h)
+returns c = λ p after h j l. let b = c .before .before in let e : b .loop .x ≡ b .before .args .cores = omega arith in rw (c .total .ensures, b .loop .inv .3 after j l, e, h)
 
 pub count-preempted-spec : {M : Type 1} → statement M
 count-preempted-spec =

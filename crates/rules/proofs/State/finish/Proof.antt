@@ -59,7 +59,7 @@ loop-again c = (search needs, search needs, λ fs e. padded-turn 64 noJob _ _ _ 
 
 returns : tie.Need-returns Inv-loop μ-loop
 unfolding finish eachJob
-returns c = λ p h. let e : c .before .loop .i ≡ c .before .before .before .before .args .count = omega arith in simp (c .before .loop .inv .2 _ (c .before .before .before .marks .ensures), e, h)
+returns c = λ p h. let e : c .before .loop .i ≡ c .before .before .before .before .args .count = omega arith in rw (c .before .loop .inv .2 _ (c .before .before .before .marks .ensures), e, h)
 
 pub finish-spec : {M : Type 1} → statement M
 finish-spec =

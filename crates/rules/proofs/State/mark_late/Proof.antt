@@ -72,7 +72,7 @@ total-requires c κs = search needs
 
 returns : tie.Need-returns Inv-loop μ-loop
 unfolding markLate eachJob
-returns c = λ p h q. let b = c .before .before in let e : b .loop .i ≡ b .before .before .args .count = omega arith in simp (c .total .ensures, b .loop .inv .5, b .loop .inv .4, e, h, q, b .loop .inv .3)
+returns c = λ p h q. let b = c .before .before in let e : b .loop .i ≡ b .before .before .args .count = omega arith in rw (c .total .ensures, b .loop .inv .5, b .loop .inv .4, e, h, q, b .loop .inv .3)
 
 pub mark-late-spec : {M : Type 1} → statement M
 mark-late-spec =

@@ -80,7 +80,7 @@ loop-again c =
 
 returns : tie.Need-returns Inv-loop μ-loop
 unfolding run eachJob
-returns c = let e : c .before .before .loop .i ≡ c .before .before .before .before .args .plan .count = omega arith in simp (c .before .before .loop .inv .4, e)
+returns c = let e : c .before .before .loop .i ≡ c .before .before .before .before .args .plan .count = omega arith in rw (c .before .before .loop .inv .4, e)
 
 pub ran-jobs-spec : {M : Type 1} → statement M
 ran-jobs-spec =

@@ -63,7 +63,7 @@ loop-again c = (search needs, search needs, λ p rs e h. padded-turn 64 noJob _ 
 
 returns : tie.Need-returns Inv-loop μ-loop
 unfolding release eachJob
-returns c = λ p h q. let e : c .before .loop .i ≡ c .before .before .before .before .args .count = omega arith in simp (c .before .loop .inv .2 p _ (c .before .before .before .marks .ensures) q, e, h)
+returns c = λ p h q. let e : c .before .loop .i ≡ c .before .before .before .before .args .count = omega arith in rw (c .before .loop .inv .2 p _ (c .before .before .before .marks .ensures) q, e, h)
 
 pub release-spec : {M : Type 1} → statement M
 release-spec =

@@ -92,7 +92,7 @@ loop-again c =
     (search needs, n .1, n .2, padded-turn 64 noStand _ _ _ _ (omega (arith, n .1 .count)) (n .3) (stand-made (a .t2) (a .t1) (b .loop .i) _ _ _ task (c .before .phase-no .ensures) (more-read (a .t2) _ _ _ _ (n .1 .placed) (c .before .before .before .smaller .ensures) task (c .index2 .ensures .0))))
 
 returns : tie.Need-returns Inv-loop μ-loop
-returns c = let e : c .before .loop .i ≡ c .before .before .before .args .t2 .count = omega arith in simp (c .before .loop .inv .3, e)
+returns c = let e : c .before .loop .i ≡ c .before .before .before .args .t2 .count = omega arith in rw (c .before .loop .inv .3, e)
 
 pub stands-spec : {M : Type 1} → statement M
 stands-spec =

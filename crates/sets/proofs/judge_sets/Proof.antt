@@ -3,10 +3,10 @@ use borrow.Author.Needs.{needs}
 use Rattle.tasks.specs.declared.Answer.the-variants.{Accepted}
 use Rattle.tasks.specs.declared.Refusal.the-variants.{NotRun, TooSoon, StillActive}
 use Rattle.rules.specs.Rules.{finish}
-use Rattle.dispatch.specs.Refusing.{notRun, tooSoon, stillActive, lowest, judgedSets}
-use Rattle.dispatch.proofs.Judging.{lowest-refused, lowest-accepted}
-use Rattle.dispatch.proofs.judge_sets.Statement.{statement}
-use Rattle.dispatch.proofs.judge_sets.Tie as tie
+use Rattle.sets.specs.Refusing.{notRun, tooSoon, stillActive, lowest, judgedSets}
+use Rattle.sets.proofs.Judging.{lowest-refused, lowest-accepted}
+use Rattle.sets.proofs.judge_sets.Statement.{statement}
+use Rattle.sets.proofs.judge_sets.Tie as tie
 
 -- every finished task ran in the tick before
 ran : (c : tie.Else1) → let a = c .before .before .before .before .before .before .args in Accepted ≡ lowest (a .finished) (notRun (a .plan) (a .state)) (λ t. NotRun t)

@@ -6,9 +6,9 @@ use borrow.Author.Needs.{needs}
 use Rattle.tasks.specs.Below.{any, first}
 use Rattle.tasks.specs.Tables.{taskNo}
 use Rattle.jobs.specs.Sets.{member}
-use Rattle.dispatch.proofs.Judging.{first-past, wrongIn, lowest-turn}
-use Rattle.dispatch.proofs.lowest_wrong.Statement.{statement}
-use Rattle.dispatch.proofs.lowest_wrong.Tie as tie
+use Rattle.sets.proofs.Judging.{first-past, wrongIn, lowest-turn}
+use Rattle.sets.proofs.lowest_wrong.Statement.{statement}
+use Rattle.sets.proofs.lowest_wrong.Tie as tie
 
 abbrev Inv-loop : tie.InvT-loop
 Inv-loop tasks wrong count low₀ k₀ low k = (k ≤ count) × (count ≤ 64) × (count ≡ min (tasks .count) 64) × (low ≡ first 256 (wrongIn (λ j. getD (tasks .members) j (taskNo 0) .0) wrong k))

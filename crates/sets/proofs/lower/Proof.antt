@@ -1,6 +1,6 @@
 use borrow.Author.Needs.{needs}
-use Rattle.dispatch.proofs.lower.Statement.{statement}
-use Rattle.dispatch.proofs.lower.Tie as tie
+use Rattle.sets.proofs.lower.Statement.{statement}
+use Rattle.sets.proofs.lower.Tie as tie
 
 smaller-requires : tie.Need-smaller-requires
 smaller-requires c κs = search needs

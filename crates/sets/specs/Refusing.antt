@@ -1,4 +1,4 @@
--- When a tick is refused: 4, 6, 5 and 8 for the plan, 9 for the state, then 10, 11 and 12, each with the lowest task that it concerns.
+-- When a tick's sets are refused: 10, 11 and 12, each with the lowest task that it concerns.
 use mathlib.Core.Bool.{Bool, not, _&&_, _||_, cond}
 use Prim.Native.Nat.{ℕ}
 use lib.Dec.{ltb, eqb}
@@ -13,7 +13,6 @@ use Rattle.plans.specs.Pieces.{taskOf}
 use Rattle.plans.specs.declared.Plan.{Plan}
 use Rattle.jobs.specs.Jobs.{isActive, onceReleased, names}
 use Rattle.rules.specs.States.{jobOf, lastOf}
-use Rattle.rules.specs.Advance.{checked}
 use Rattle.rules.specs.Rules.{finish}
 use Rattle.jobs.specs.Sets.{member}
 use Rattle.rules.specs.declared.State.{State}
@@ -43,6 +42,3 @@ judgedSets p s fs rs =
     let after : State = finish p fs s in
     andThen (lowest fs (notRun p s) NotRun)
     (andThen (lowest rs (tooSoon p after) TooSoon) (lowest rs (stillActive p after) StillActive))
-
-unfoldable pub judged : Plan → State → Tasks → Tasks → Answer
-judged p s fs rs = andThen (checked p s) (judgedSets p s fs rs)

@@ -7,7 +7,7 @@ use Prim.Native.Nat.{ℕ, _+_, _≤_, _<_, min}
 use native.Mathlib.Decide.{ℕ-discrete, decLt}
 use native.Mathlib.Omega.{arith}
 use lib.Dec.{leb, ltb, eqb}
-use lib.ListN.{getD, set}
+use lib.ListN.{length, getD, set, List·getD-eq-default}
 use borrow.Author.Tests.{le-leb, lt-leb, lt-ltb, le-ltb, eq-eqb, ne-eqb}
 use Rattle.tasks.specs.Below.{any, first, tabulate, padded}
 use Rattle.tasks.specs.Tables.{noTask, taskNo}
@@ -15,15 +15,15 @@ use Rattle.tasks.specs.declared.Answer.the-variants.{Accepted, Refused}
 use Rattle.tasks.specs.declared.Refusal.{Refusal}
 use Rattle.tasks.specs.declared.Task.{Task}
 use Rattle.tasks.specs.declared.TaskNo.{TaskNo}
-use Rattle.tasks.proofs.Below.{any-more, any-same, any-none, first-holds, first-none, first-before, first-is, first-same}
-use Rattle.tasks.proofs.Bools.{either, not-second}
-use Rattle.tasks.proofs.Padded.{tabulate-at, padded-in}
-use Rattle.tasks.proofs.Tabulate.{tabulate-same, tabulate-turn}
+use Rattle.tasks.proofs.Below.{Found, any-found, any-make, any-each, any-more, any-same, any-none, first-holds, first-none, first-before, first-is, first-same}
+use Rattle.tasks.proofs.Bools.{clash, either, not-second}
+use Rattle.tasks.proofs.Padded.{tabulate-at, padded-length, padded-in}
+use Rattle.tasks.proofs.Tabulate.{tabulate-turn}
 use Rattle.plans.specs.Pieces.{taskOf}
 use Rattle.plans.specs.declared.Plan.{Plan}
-use Rattle.jobs.specs.Jobs.{noJob, noRun, names, runnerNo, isActive, onceReleased}
+use Rattle.jobs.specs.Jobs.{noJob, noRun, names, runnerNo, isActive, onceReleased, phaseNo}
 use Rattle.rules.specs.States.{jobOf, lastOf}
-use Rattle.dispatch.specs.Refusing.{notRun, tooSoon, stillActive, lowest}
+use Rattle.sets.specs.Refusing.{notRun, tooSoon, stillActive, lowest}
 use Rattle.rules.specs.Rules.{eachJob, endedJob, finishedJob, finish}
 use Rattle.jobs.specs.Sets.{member}
 use Rattle.jobs.specs.declared.CoreRun.{CoreRun}
@@ -33,21 +33,36 @@ use Rattle.jobs.specs.declared.Phase.the-variants.{Never, Active, Ended}
 use Rattle.rules.specs.declared.State.{State}
 use Rattle.jobs.specs.declared.Tasks.{Tasks}
 use Rattle.rules.proofs.Steps.{finish-out}
-use Rattle.jobs.proofs.Numbers.{named-no}
-use Rattle.jobs.proofs.Walks.{tabulated, or-none, or-one}
+use Rattle.jobs.proofs.Numbers.{once-no, named-no}
+use Rattle.jobs.proofs.Walks.{or-none, or-one}
 
 and-one : (a : Bool) → a && true ≡ a
 and-one true = refl
 and-one false = refl
 
--- a list that has what f gives below n and is padded with what f gives past n is f's table
-padded-all : {A : Type 0} (size n : ℕ) (empty : A) (g f : ℕ → A) → ((t : ℕ) → t < n → g t ≡ f t) → ((t : ℕ) → n ≤ t → empty ≡ f t) → padded size n empty g ≡ tabulate size f
+-- what a list that is filled up to n has at t
+filled : (n : ℕ) (empty v : Bool) (g : ℕ → Bool) (xs : List Bool) (t : ℕ) → xs ≡ padded 257 n empty g → t < 256 → (t < n → g t ≡ v) → (n ≤ t → empty ≡ v) → getD xs t false ≡ v
 unfolding padded
-padded-all size n empty g f w h = tabulate-same size (λ t. cond (ltb t n) (g t) empty) f empty (λ t l. go t (decLt t n))
+filled n empty v g xs t e l w h = rw (e, tabulate-at 257 (λ i. cond (ltb i n) (g i) empty) t false (omega arith)) (go (decLt t n))
   where
-    go : (t : ℕ) → Dec (t < n) → cond (ltb t n) (g t) empty ≡ f t
-    go t (yes b) = rw (lt-ltb t n b) (w t b)
-    go t (no b) = rw (le-ltb t n (omega arith)) (h t (omega arith))
+    go : Dec (t < n) → cond (ltb t n) (g t) empty ≡ v
+    go (yes b) = rw (lt-ltb t n b) (w b)
+    go (no b) = rw (le-ltb t n (omega arith)) (h (omega arith))
+
+-- a count above a size reads as that size, where none past it passes
+any-read : (size n : ℕ) (f : ℕ → Bool) → ((j : ℕ) → size ≤ j → f j ≡ false) → any (min n size) f ≡ any n f
+any-read size n f h = go (either (any n f))
+  where
+    go : (any n f ≡ true) ⊎ (any n f ≡ false) → any (min n size) f ≡ any n f
+    go (inr a) = any-none (min n size) f (λ j l. any-each n f a j (omega arith)) ∙ sym a
+    go (inl a) = by (any-found n f a)
+      where
+        by : Found n f → any (min n size) f ≡ any n f
+        by k = within (decLt (k .place) size)
+          where
+            within : Dec (k .place < size) → any (min n size) f ≡ any n f
+            within (yes l) = any-make (min n size) f (k .place) (omega (arith, k .below)) (k .holds) ∙ sym a
+            within (no l) = clash (k .holds) (h (k .place) (omega arith))
 
 -- one core more is one task more that ran, or none
 module _ (count : ℕ) (last : List CoreRun) where
@@ -76,14 +91,23 @@ module _ (count : ℕ) (last : List CoreRun) where
       (rw (any-more, ← or-one (any x (λ y. eqb (ranOn y) t)) (eq-eqb (ranOn x) t (sym q))) (not-below t))
       (λ i d. rw any-more (ap (λ (z : Bool). not (ltb i count && z)) (or-none (any x (λ y. eqb (ranOn y) i)) (ne-eqb (ranOn x) i (λ b. d (sym b ∙ sym q))))))
 
-  pub run-read : (p : Plan) (s : State) (xs : List Bool) → p .count ≡ count → s .last ≡ last → xs ≡ tabulate 257 (notRunOn (p .cores)) → (t : ℕ) → t < 256 → getD xs t false ≡ notRun p s t
-  run-read p s xs h l e t b = rw (e, tabulate-at 257 (notRunOn (p .cores)) t false (omega arith), ← h, ← l, any-same (p .cores) (λ y. eqb (runnerNo (lastOf s y)) t) (λ y. names t (lastOf s y)) (λ y k. named-no (lastOf s y) t b))
+  pub run-read : (p : Plan) (s : State) (xs : List Bool) → length last ≡ 16 → p .count ≡ count → s .last ≡ last → xs ≡ tabulate 257 (notRunOn (min (p .cores) 16)) → (t : ℕ) → t < 256 → getD xs t false ≡ notRun p s t
+  run-read p s xs size h l e t b =
+      rw (e, tabulate-at 257 (notRunOn (min (p .cores) 16)) t false (omega arith), ← h, any-read 16 (p .cores) (λ y. eqb (ranOn y) t) past, ← l)
+      (ap (λ (z : Bool). not (ltb t (p .count) && z)) (any-same (p .cores) (λ y. eqb (runnerNo (lastOf s y)) t) (λ y. names t (lastOf s y)) (λ y k. named-no (lastOf s y) t b)))
+    where
+      past : (y : ℕ) → 16 ≤ y → eqb (ranOn y) t ≡ false
+      past y k = let z : getD last y noRun ≡ noRun = List·getD-eq-default last noRun (omega arith) in rw z (ne-eqb 256 t (λ w. omega arith))
 
 -- refusals 11 and 12 after the finishes, told of the jobs before them
-module _ (p : Plan) (few : p .count ≤ 64) (s : State) (fs : Tasks) (t : ℕ) where
-  finished-is : t < p .count → jobOf (finish p fs s) t ≡ finishedJob fs t (jobOf s t)
+module _ (p : Plan) (s : State) (fs : Tasks) (t : ℕ) where
+  finished-is : t < p .count → t < 64 → jobOf (finish p fs s) t ≡ finishedJob fs t (jobOf s t)
   unfolding finish eachJob
-  finished-is l = padded-in 64 noJob (p .count) (λ i. finishedJob fs i (jobOf s i)) t l (omega arith)
+  finished-is l b = padded-in 64 noJob (p .count) (λ i. finishedJob fs i (jobOf s i)) t l b
+
+  finished-past : 64 ≤ t → jobOf (finish p fs s) t ≡ noJob
+  unfolding finish eachJob
+  finished-past b = List·getD-eq-default (finish p fs s .jobs) noJob (omega (arith, padded-length 64 noJob (p .count) (λ i. finishedJob fs i (jobOf s i))))
 
   soon-job : (h : Phase) (m : Bool) (late : Bool) (piece age ran d : ℕ) → let j : Job = record { phase = h; late = late; piece = piece; age = age; ran = ran } in let f : Job = cond (m && isActive h) (endedJob j) j in onceReleased h && ltb age d ≡ onceReleased (f .phase) && ltb (f .age) d
   soon-job Never true late piece age ran d = refl
@@ -101,32 +125,37 @@ module _ (p : Plan) (few : p .count ≤ 64) (s : State) (fs : Tasks) (t : ℕ) w
   active-job Ended true late piece age ran d = refl
   active-job Ended false late piece age ran d = refl
 
-  soon-in : t < p .count → onceReleased (jobOf s t .phase) && ltb (jobOf s t .age) (taskOf p t .period) ≡ tooSoon p (finish p fs s) t
-  soon-in l = rw (lt-ltb t (p .count) l, finished-is l) (soon-job (jobOf s t .phase) (member fs t) (jobOf s t .late) (jobOf s t .piece) (jobOf s t .age) (jobOf s t .ran) (taskOf p t .period))
+  soon-in : t < p .count → t < 64 → onceReleased (jobOf s t .phase) && ltb (jobOf s t .age) (taskOf p t .period) ≡ tooSoon p (finish p fs s) t
+  soon-in l b = rw (lt-ltb t (p .count) l, finished-is l b) (soon-job (jobOf s t .phase) (member fs t) (jobOf s t .late) (jobOf s t .piece) (jobOf s t .age) (jobOf s t .ran) (taskOf p t .period))
 
-  soon-past : p .count ≤ t → true ≡ tooSoon p (finish p fs s) t
-  soon-past l = rw (le-ltb t (p .count) l)
-
-  active-in : t < p .count → isActive (jobOf s t .phase) && eqb (jobOf s t .age) (taskOf p t .period) && not (member fs t) ≡ stillActive p (finish p fs s) t
-  active-in l = rw (finished-is l) (active-job (jobOf s t .phase) (member fs t) (jobOf s t .late) (jobOf s t .piece) (jobOf s t .age) (jobOf s t .ran) (taskOf p t .period))
-
-  active-past : p .count ≤ t → false ≡ stillActive p (finish p fs s) t
-  active-past l = rw (finish-out p fs s t l)
+  active-in : t < p .count → t < 64 → isActive (jobOf s t .phase) && eqb (jobOf s t .age) (taskOf p t .period) && not (member fs t) ≡ stillActive p (finish p fs s) t
+  active-in l b = rw (finished-is l b) (active-job (jobOf s t .phase) (member fs t) (jobOf s t .late) (jobOf s t .piece) (jobOf s t .age) (jobOf s t .ran) (taskOf p t .period))
 
 -- the walks over the jobs
 module _ (tasks : List Task) (jobs : List Job) where
   abbrev pub soonAt : ℕ → Bool
-  soonAt t = onceReleased (getD jobs t noJob .phase) && ltb (getD jobs t noJob .age) (getD tasks t noTask .period)
+  soonAt t = ltb t 64 && onceReleased (getD jobs (min t 63) noJob .phase) && ltb (getD jobs (min t 63) noJob .age) (getD tasks (min t 63) noTask .period)
+
+  pub soon-turn : (t i n : ℕ) → i ≡ min t 63 → n ≡ phaseNo (getD jobs i noJob .phase) → ltb t 64 && ltb 0 n && ltb (getD jobs i noJob .age) (getD tasks i noTask .period) ≡ soonAt t
+  soon-turn t i n e h = rw (h, once-no, e)
 
   abbrev pub activeAt : List Bool → ℕ → Bool
   activeAt finished t = isActive (getD jobs t noJob .phase) && eqb (getD jobs t noJob .age) (getD tasks t noTask .period) && not (getD finished t false)
 
-module _ (p : Plan) (few : p .count ≤ 64) (s : State) (fs : Tasks) (xs : List Bool) where
-  pub soon-read : xs ≡ padded 257 (p .count) true (soonAt (p .tasks) (s .jobs)) → (t : ℕ) → t < 256 → getD xs t false ≡ tooSoon p (finish p fs s) t
-  soon-read e t b = sym (tabulated 257 (tooSoon p (finish p fs s)) xs t false (e ∙ padded-all 257 (p .count) true _ _ (soon-in p few s fs) (soon-past p few s fs)) (omega arith))
+module _ (p : Plan) (s : State) (fs : Tasks) (xs : List Bool) (t : ℕ) (l : t < 256) where
+  pub soon-read : xs ≡ padded 257 (min (p .count) 256) true (soonAt (p .tasks) (s .jobs)) → getD xs t false ≡ tooSoon p (finish p fs s) t
+  soon-read e = filled (min (p .count) 256) true _ _ xs t e l (λ b. go b (decLt t 64)) (λ b. rw (le-ltb t (p .count) (omega arith)))
+    where
+      go : t < min (p .count) 256 → Dec (t < 64) → soonAt (p .tasks) (s .jobs) t ≡ tooSoon p (finish p fs s) t
+      go b (yes k) = let m : min t 63 ≡ t = omega arith in rw (m, lt-ltb t 64 k) (soon-in p s fs t (omega arith) k)
+      go b (no k) = rw (le-ltb t 64 (omega arith), lt-ltb t (p .count) (omega arith), finished-past p s fs t (omega arith))
 
-  pub active-read : xs ≡ padded 257 (p .count) false (activeAt (p .tasks) (s .jobs) (tabulate 256 (member fs))) → (t : ℕ) → t < 256 → getD xs t false ≡ stillActive p (finish p fs s) t
-  active-read e t b = sym (tabulated 257 (stillActive p (finish p fs s)) xs t false (e ∙ padded-all 257 (p .count) false _ _ (λ k l. rw (tabulate-at 256 (member fs) k false (omega (arith, few))) (active-in p few s fs k l)) (active-past p few s fs)) (omega arith))
+  pub active-read : xs ≡ padded 257 (min (p .count) 64) false (activeAt (p .tasks) (s .jobs) (tabulate 256 (member fs))) → getD xs t false ≡ stillActive p (finish p fs s) t
+  active-read e = filled (min (p .count) 64) false _ _ xs t e l (λ b. rw (tabulate-at 256 (member fs) t false l) (active-in p s fs t (omega arith) (omega arith))) (λ b. rw (past b (decLt t 64)))
+    where
+      past : min (p .count) 64 ≤ t → Dec (t < 64) → jobOf (finish p fs s) t ≡ noJob
+      past b (yes k) = finish-out p fs s t (omega arith)
+      past b (no k) = finished-past p s fs t (omega arith)
 
 pub first-past : (n : ℕ) (f : ℕ → Bool) → ((j : ℕ) → j < n → f j ≡ false) → n ≡ first n f
 first-past n f h = sym (first-none n f (any-none n f h))
