@@ -69,7 +69,7 @@ fn of_runs(sum: u64, runs: [CoreRun; 16], cores: usize) -> u64 {
 // The table file planned; 0 on a refusal.
 #[no_mangle]
 pub extern "C" fn bench_ours_plan(table: &[u8]) -> u64 {
-    let read = reading::read_table(table);
+    let read = files::read_table(table);
     let given = read.table;
     let planned = planner::plan_table(given);
     let answer = planned.answer;
@@ -82,7 +82,7 @@ pub extern "C" fn bench_ours_plan(table: &[u8]) -> u64 {
 // Ticks of the plan file from a fresh state, every task released as soon as allowed; 0 on a refusal.
 #[no_mangle]
 pub extern "C" fn bench_ours_ticks(plan: &[u8], count: u32) -> u64 {
-    let read = reading::read_plan(plan);
+    let read = files::read_plan(plan);
     let plan = read.plan;
     let none = Tasks {
         members: [TaskNo(0); 64],

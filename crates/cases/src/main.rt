@@ -85,11 +85,11 @@ fn periods() {
     say_answer(b"period 1000001: ", tasks::check_table(table(1, 1000001)));
     say_read(
         b"period 1000000 in a file: ",
-        reading::read_table(&[2, 0, 12, 0, 0, 0, 6, 0, 0, 0, 10, 0, 15, 66, 64]),
+        files::read_table(&[2, 0, 12, 0, 0, 0, 6, 0, 0, 0, 10, 0, 15, 66, 64]),
     );
     say_read(
         b"period 1000001 in a file: ",
-        reading::read_table(&[2, 0, 12, 0, 0, 0, 6, 0, 0, 0, 10, 0, 15, 66, 65]),
+        files::read_table(&[2, 0, 12, 0, 0, 0, 6, 0, 0, 0, 10, 0, 15, 66, 65]),
     );
 }
 

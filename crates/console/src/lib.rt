@@ -2,7 +2,7 @@
 // A read that fails counts as the end of the input.
 ghost use mathlib.Core.Path.{_≡_};
 ghost use lib.ListN.{take};
-ghost use Rattle.reading.specs.Reading.{planRead};
+ghost use Rattle.files.specs.Files.{planRead};
 use fields::Reader;
 use libc::STDIN_FILENO;
 use libc::STDOUT_FILENO;
@@ -54,9 +54,9 @@ pub fn plan_in(bytes: &[u8], n: usize) -> ReadPlan
     ensures { λ r. ⌜ r ≡ planRead (take n (now (bytes .entry))) ⌝ }
 {
     if bytes.len() < n {
-        return reading::read_plan(bytes);
+        return files::read_plan(bytes);
     }
-    reading::read_plan(&bytes[..n])
+    files::read_plan(&bytes[..n])
 }
 
 // Prints a text.

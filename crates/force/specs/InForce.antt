@@ -8,7 +8,7 @@ use lib.ListN.{length, take, drop, getD}
 use denote.Ref.{RefT, ptr, now}
 use Rattle.tasks.specs.declared.Answer.{Answer}
 use Rattle.tasks.specs.declared.Answer.the-variants.{Accepted, Refused}
-use Rattle.reading.specs.Reading.{tableRead}
+use Rattle.files.specs.Files.{tableRead}
 use Rattle.force.specs.declared.InForce.{InForce}
 use Rattle.force.specs.declared.InForce.the-variants.{Own, Shipped, Neither}
 

@@ -1,7 +1,7 @@
 // The table in force: the machine's own table if it is good, otherwise the shipped one if that is good.
 ghost use mathlib.Core.Path.{_≡_};
 ghost use Rattle.force.specs.InForce.{inForce, TaskFields, IsInForce};
-use reading::read_table;
+use files::read_table;
 use tasks::Answer;
 use tasks::Refusal;
 

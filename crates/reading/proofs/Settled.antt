@@ -1,12 +1,9 @@
 -- Each public contract settles its result.
-use contract.Lifetimes.{Lfts}
 use Rattle.tasks.proofs.Settling.{Settles, settled}
 use Rattle.reading.proofs.start_table.Reads as start-table
 use Rattle.reading.proofs.start_plan.Reads as start-plan
 use Rattle.reading.proofs.close_table.Reads as close-table
 use Rattle.reading.proofs.close_plan.Reads as close-plan
-use Rattle.reading.proofs.read_table.Reads as read-table
-use Rattle.reading.proofs.read_plan.Reads as read-plan
 
 pub start-table-settled : Settles (start-table.Post tt)
 start-table-settled x e r s p q = settled p q
@@ -19,9 +16,3 @@ close-table-settled x e r s p q = settled p q
 
 pub close-plan-settled : Settles (close-plan.Post tt)
 close-plan-settled x e r s p q = settled p q
-
-pub read-table-settled : (κ : Lfts 1) → Settles (read-table.Post κ)
-read-table-settled κ x e r s p q = settled p q
-
-pub read-plan-settled : (κ : Lfts 1) → Settles (read-plan.Post κ)
-read-plan-settled κ x e r s p q = settled p q

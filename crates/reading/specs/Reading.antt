@@ -82,10 +82,3 @@ tableClosed r = tableAnswered (endedAfter (r .field) (r .plan .count)) (r .plan)
 
 unfoldable pub planClosed : Reader → ReadPlan
 planClosed r = planAnswered (planEnded (r .field) (r .plan)) (r .plan)
-
--- a table file, a plan file
-unfoldable pub tableRead : List ℕ → ReadTable
-tableRead s = tableClosed (read (begun false) s)
-
-unfoldable pub planRead : List ℕ → ReadPlan
-planRead s = planClosed (read (begun true) s)

@@ -2,8 +2,7 @@
 ghost use mathlib.Core.Bool.{true, false};
 ghost use mathlib.Core.Path.{_≡_};
 ghost use lib.ListN.{replicate};
-ghost use Rattle.fields.specs.Fields.{read};
-ghost use Rattle.reading.specs.Reading.{refusal, ended, emptyPlan, begun, tableClosed, tableRead, planEnded, planClosed, planRead};
+ghost use Rattle.reading.specs.Reading.{refusal, ended, emptyPlan, begun, tableClosed, planEnded, planClosed};
 ghost use Rattle.tasks.specs.Tables.{noTask};
 use fields::Field;
 use fields::Reader;
@@ -159,13 +158,6 @@ pub fn close_table(reader: Reader) -> ReadTable
     }
 }
 
-// Reads a table file: any bytes at all.
-pub fn read_table(bytes: &[u8]) -> ReadTable
-    ensures { λ r. ⌜ r ≡ tableRead (now (bytes .entry)) ⌝ }
-{
-    close_table(fields::feed(start_table(), bytes))
-}
-
 // What the end of a plan file is answered with: 1, 6 or, last, 8.
 fn plan_ended(f: Field, plan: Plan) -> Answer
     ensures { λ r. ⌜ r ≡ planEnded f plan ⌝ }
@@ -193,11 +185,4 @@ pub fn close_plan(reader: Reader) -> ReadPlan
         };
     }
     ReadPlan { answer, plan }
-}
-
-// Reads a plan file: any bytes at all.
-pub fn read_plan(bytes: &[u8]) -> ReadPlan
-    ensures { λ r. ⌜ r ≡ planRead (now (bytes .entry)) ⌝ }
-{
-    close_plan(fields::feed(start_plan(), bytes))
 }

@@ -18,7 +18,7 @@ use Rattle.rules.specs.declared.State.{State}
 use Rattle.lines.specs.Lines.{totalsText}
 use Rattle.texts.specs.Text.{textOf}
 use Rattle.tasks.specs.Places.{further}
-use Rattle.reading.specs.Reading.{planRead}
+use Rattle.files.specs.Files.{planRead}
 use Rattle.replays.specs.Requests.{requestSize, requestAnswer}
 use Rattle.replays.specs.Replay.{placeAt, closed, ticksText, told, replayText, start, Standing, next, played, wholes, atHand, standing, playedOn}
 use Rattle.replays.specs.declared.Player.{Player}

@@ -11,7 +11,7 @@ use Rattle.tasks.specs.declared.Place.{Place}
 use Rattle.tasks.specs.declared.Refusal.the-variants.{CutShort}
 use Rattle.plans.specs.declared.Plan.{Plan}
 use Rattle.tasks.specs.Places.{further}
-use Rattle.reading.specs.Reading.{planRead}
+use Rattle.files.specs.Files.{planRead}
 use Rattle.reading.specs.declared.ReadPlan.{ReadPlan}
 use Rattle.rules.specs.States.{freshState}
 use Rattle.dispatch.specs.Tick.{tick}

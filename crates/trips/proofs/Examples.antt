@@ -11,7 +11,8 @@ use Rattle.tasks.specs.declared.Table.{Table}
 use Rattle.writing.specs.Fields.{tableBytes, tasksBytes, coreField, taskField, row}
 use Rattle.tasks.specs.Places.{further}
 use Rattle.fields.specs.Fields.{read, step, verdict, hold, tagFits, values, nextField, added}
-use Rattle.reading.specs.Reading.{refusal, ended, tableClosed, tableRead}
+use Rattle.reading.specs.Reading.{refusal, ended, tableClosed}
+use Rattle.files.specs.Files.{tableRead}
 
 abbrev example : List ℕ
 example = 1 ∷ 0 ∷ 1 ∷ 2 ∷ 2 ∷ 0 ∷ 12 ∷ 0 ∷ 0 ∷ 0 ∷ 6 ∷ 0 ∷ 0 ∷ 0 ∷ 10 ∷ 0 ∷ 0 ∷ 0 ∷ 10 ∷ []

@@ -22,7 +22,8 @@ use Rattle.shapes.specs.Shape.{checkedPlan, shape}
 use Rattle.plans.specs.declared.Plan.{Plan}
 use Rattle.writing.specs.Fields.{coreField, taskField, row, tasksBytes, tableBytes, planBytes}
 use Rattle.fields.specs.Fields.{fieldAt, refusedField, read}
-use Rattle.reading.specs.Reading.{defaultCores, begun, emptyPlan, refusal, movedTo, ended, fieldsAnswer, endedAfter, planEnded, tableAnswered, planAnswered, tableClosed, tableRead, planClosed, planRead}
+use Rattle.reading.specs.Reading.{defaultCores, begun, emptyPlan, refusal, movedTo, ended, fieldsAnswer, endedAfter, planEnded, tableAnswered, planAnswered, tableClosed, planClosed}
+use Rattle.files.specs.Files.{tableRead, planRead}
 use Rattle.fields.specs.declared.Field.{Field}
 use Rattle.trips.proofs.Accepted.{told, Content, Held, read-held, cleared, zero-byte}
 use Rattle.trips.proofs.Good.{accepted-not-refused}

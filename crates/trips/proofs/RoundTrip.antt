@@ -22,7 +22,8 @@ use Rattle.plans.specs.declared.Plan.{Plan}
 use Rattle.writing.specs.Fields.{coreField, taskField, pieceField, row, tasksBytes, tableBytes, planBytes}
 use Rattle.tasks.specs.Places.{further}
 use Rattle.fields.specs.Fields.{fieldAt, read}
-use Rattle.reading.specs.Reading.{begun, emptyPlan, ended, tableClosed, tableRead, planEnded, planClosed, planRead}
+use Rattle.reading.specs.Reading.{begun, emptyPlan, ended, tableClosed, planEnded, planClosed}
+use Rattle.files.specs.Files.{tableRead, planRead}
 use Rattle.fields.specs.declared.Field.{Field}
 use Rattle.fields.specs.declared.Reader.{Reader}
 use Rattle.trips.proofs.Good.{values-fit, counts-fit, plan-accepted}

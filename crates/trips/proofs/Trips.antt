@@ -16,7 +16,7 @@ use Rattle.tasks.specs.declared.Refusal.the-variants.{BufferShort}
 use Rattle.tasks.specs.declared.Table.{Table}
 use Rattle.plans.specs.declared.Plan.{Plan}
 use Rattle.writing.specs.Fields.{tableBytes, planBytes}
-use Rattle.reading.specs.Reading.{tableRead, planRead}
+use Rattle.files.specs.Files.{tableRead, planRead}
 use Rattle.writing.specs.Writing.{answered, filled, tableWritten, tableFilled, planWritten, planFilled}
 use Rattle.reading.specs.declared.ReadPlan.{ReadPlan}
 use Rattle.reading.specs.declared.ReadTable.{ReadTable}

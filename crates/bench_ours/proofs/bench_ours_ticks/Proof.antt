@@ -8,7 +8,7 @@ use Rattle.bench_ours.proofs.mix.Reads as mix-reads
 use Rattle.bench_ours.proofs.of_runs.Reads as of-runs-reads
 use Rattle.dispatch.proofs.fresh.Reads as fresh-reads
 use Rattle.dispatch.proofs.tick.Reads as tick-reads
-use Rattle.reading.proofs.read_plan.Reads as read-plan-reads
+use Rattle.files.proofs.read_plan.Reads as read-plan-reads
 use Rattle.runs.proofs.all_allowed.Reads as all-allowed-reads
 
 abbrev Inv-loop : tie.InvT-loop

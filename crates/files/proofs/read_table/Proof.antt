@@ -1,6 +1,6 @@
-use Rattle.reading.specs.Reading.{tableRead}
-use Rattle.reading.proofs.read_table.Statement.{statement}
-use Rattle.reading.proofs.read_table.Tie as tie
+use Rattle.files.specs.Files.{tableRead}
+use Rattle.files.proofs.read_table.Statement.{statement}
+use Rattle.files.proofs.read_table.Tie as tie
 
 start-table-requires : tie.Need-start-table-requires
 start-table-requires c κs = tt

@@ -1,7 +1,7 @@
-use Rattle.reading.specs.Reading.{planRead}
+use Rattle.files.specs.Files.{planRead}
 use borrow.Author.Needs.{needs}
-use Rattle.reading.proofs.read_plan.Statement.{statement}
-use Rattle.reading.proofs.read_plan.Tie as tie
+use Rattle.files.proofs.read_plan.Statement.{statement}
+use Rattle.files.proofs.read_plan.Tie as tie
 
 start-plan-requires : tie.Need-start-plan-requires
 start-plan-requires c κs = search needs

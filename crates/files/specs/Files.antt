@@ -1,0 +1,14 @@
+-- A file that is read whole: a table file, a plan file.
+use mathlib.Core.Bool.{true, false}
+use mathlib.Core.List.{List}
+use Prim.Native.Nat.{ℕ}
+use Rattle.fields.specs.Fields.{read}
+use Rattle.reading.specs.Reading.{begun, tableClosed, planClosed}
+use Rattle.reading.specs.declared.ReadPlan.{ReadPlan}
+use Rattle.reading.specs.declared.ReadTable.{ReadTable}
+
+unfoldable pub tableRead : List ℕ → ReadTable
+tableRead s = tableClosed (read (begun false) s)
+
+unfoldable pub planRead : List ℕ → ReadPlan
+planRead s = planClosed (read (begun true) s)
