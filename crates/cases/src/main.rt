@@ -81,8 +81,8 @@ fn table(count: usize, period: u32) -> Table {
 
 // Period 1,000,000 is taken, 1,000,001 refused: in a record and in a file.
 fn periods() {
-    say_answer(b"period 1000000: ", tasks::check_table(table(1, 1000000)));
-    say_answer(b"period 1000001: ", tasks::check_table(table(1, 1000001)));
+    say_answer(b"period 1000000: ", tables::check_table(table(1, 1000000)));
+    say_answer(b"period 1000001: ", tables::check_table(table(1, 1000001)));
     say_read(
         b"period 1000000 in a file: ",
         files::read_table(&[2, 0, 12, 0, 0, 0, 6, 0, 0, 0, 10, 0, 15, 66, 64]),

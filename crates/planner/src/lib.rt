@@ -292,7 +292,7 @@ fn lay_out(table: Table) -> Planned
 pub fn plan_table(table: Table) -> Planned
     ensures { λ r. ⌜ r ≡ layouts.planned table ⌝ }
 {
-    let answer = tasks::check_table(table);
+    let answer = tables::check_table(table);
     match answer {
         Answer::Refused(r) => refused(r),
         Answer::Accepted => lay_out(table),

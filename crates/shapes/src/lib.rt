@@ -112,7 +112,7 @@ pub fn check_plan(plan: Plan) -> Answer
     ensures { λ r. ⌜ r ≡ checkedPlan plan ⌝ }
 {
     let given = plan.tasks;
-    let answer = tasks::check_tasks(plan.cores, plan.count, given);
+    let answer = tables::check_tasks(plan.cores, plan.count, given);
     match answer {
         Answer::Refused(_) => answer,
         Answer::Accepted => {

@@ -125,7 +125,7 @@ fn put_table(out: &mut [u8], cores: usize, count: usize, tasks: [Task; 64]) -> u
 pub fn write_table(table: Table, out: &mut [u8]) -> Written
     ensures { λ r. ⌜ (r ≡ tableWritten table (now (out .entry))) × (now (out .exit) ≡ tableFilled table (now (out .entry))) ⌝ }
 {
-    let answer = tasks::check_table(table);
+    let answer = tables::check_table(table);
     if let Answer::Refused(refusal) = answer {
         return Written::Refused(refusal);
     }

@@ -7,7 +7,7 @@ use Rattle.planner.proofs.plan_table.Reads as reads
 use Rattle.planner.proofs.plan_table.Lts as lts
 use Rattle.planner.proofs.lay_out.Reads as lay-out-reads
 use Rattle.planner.proofs.refused.Reads as refused-reads
-use Rattle.tasks.proofs.check_table.Reads as check-table-reads
+use Rattle.tables.proofs.check_table.Reads as check-table-reads
 
 check-table-requires : tie.Need-check-table-requires
 check-table-requires c κs = search needs

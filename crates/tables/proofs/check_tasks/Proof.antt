@@ -1,21 +1,21 @@
 use Rattle.tasks.specs.Tables.{coresFit, tasksFit}
 use mathlib.Core.Path.{sym, _∙_}
 use borrow.Author.Tests.{not-true, not-false}
 use borrow.Author.Count.{below-more}
 use Rattle.tasks.proofs.Tables.{counts-say, bad-cores, bad-count, bad-values, all-good}
 use borrow.Author.Needs.{needs}
 use native.Mathlib.Omega.{arith}
 use Prim.Native.Nat.{ℕ, _≤_, _<_, _-_}
 use mathlib.Core.Path.{_≡_}
 use mathlib.Core.Bool.{true}
 use lib.ListN.{getD}
 use Rattle.tasks.specs.Tables.{noTask, valuesFit}
-use Rattle.tasks.proofs.check_tasks.Statement.{statement}
-use Rattle.tasks.proofs.check_tasks.Tie as tie
-use Rattle.tasks.proofs.check_tasks.Reads as reads
-use Rattle.tasks.proofs.check_tasks.Lts as lts
-use Rattle.tasks.proofs.counts.Reads as counts-reads
+use Rattle.tables.proofs.check_tasks.Statement.{statement}
+use Rattle.tables.proofs.check_tasks.Tie as tie
+use Rattle.tables.proofs.check_tasks.Reads as reads
+use Rattle.tables.proofs.check_tasks.Lts as lts
+use Rattle.tables.proofs.counts.Reads as counts-reads
 use Rattle.tasks.proofs.values_fit.Reads as values-fit-reads
 
 abbrev Inv-loop : tie.InvT-loop
 Inv-loop cores count tasks i₀ i = (i ≤ count) × (count ≤ 64) × (coresFit cores ≡ true) × (tasksFit count ≡ true) × ((k : ℕ) → k < i → valuesFit (getD tasks k noTask) ≡ true)
