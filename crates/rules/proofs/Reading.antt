@@ -36,7 +36,11 @@ module _ (tasks : List Task) (i : ℕ) (j : Job) where
   abbrev pub markedAt : Job
   markedAt = cond turnsAt (record { phase = j .phase; late = true; piece = j .piece; age = j .age; ran = j .ran }) j
 
-  pub turns-read : (n : ℕ) → n ≡ phaseNo (j .phase) → eqb n 1 && eqb (j .age) (getD tasks i noTask .deadline) && not (j .late) ≡ turnsAt
+  -- n being the phase's number
+  abbrev pub turnsBy : ℕ → Bool
+  turnsBy n = eqb n 1 && eqb (j .age) (getD tasks i noTask .deadline) && not (j .late)
+
+  pub turns-read : (n : ℕ) → n ≡ phaseNo (j .phase) → turnsBy n ≡ turnsAt
   turns-read n h = rw (h, active-no)
 
   pub marked-read : (turns : Bool) → turns ≡ turnsAt → record { phase = j .phase; late = turns || j .late; piece = j .piece; age = j .age; ran = j .ran } ≡ markedAt
@@ -51,8 +55,11 @@ module _ (p : Plan) (i : ℕ) (j : Job) where
   pub aged-once : (age : ℕ) → 0 < phaseNo (j .phase) → age ≡ min (j .age + 1) (taskOf p i .period) → record { phase = j .phase; late = j .late; piece = j .piece; age = age; ran = j .ran } ≡ agedJob p i j
   aged-once age h e = rw (← once-no (j .phase), lt-ltb 0 (phaseNo (j .phase)) h, e)
 
--- a preemption on a core, told of the numbers of what ran there and of what runs there now
-pub pushed-read : (after now : State) (jobs : List Job) (last : List CoreRun) (x t k n m : ℕ) → length jobs ≡ 64 → after .jobs ≡ jobs → after .last ≡ last → t ≡ runnerNo (getD last x noRun .runner) → k ≡ min t 63 → n ≡ phaseNo (getD jobs k noJob .phase) → m ≡ runnerNo (lastOf now x) → ltb t 64 && eqb n 1 && not (eqb m t) ≡ preempted after now x
+-- a preemption on a core, told of the numbers of what ran there, of its phase and of what runs there now
+abbrev pub pushedBy : ℕ → ℕ → ℕ → Bool
+pushedBy t n m = ltb t 64 && eqb n 1 && not (eqb m t)
+
+pub pushed-read : (after now : State) (jobs : List Job) (last : List CoreRun) (x t k n m : ℕ) → length jobs ≡ 64 → after .jobs ≡ jobs → after .last ≡ last → t ≡ runnerNo (getD last x noRun .runner) → k ≡ min t 63 → n ≡ phaseNo (getD jobs k noJob .phase) → m ≡ runnerNo (lastOf now x) → pushedBy t n m ≡ preempted after now x
 unfolding preempted
 pushed-read after now jobs last x t k n m size j l q h a w = rw (a, w, h, q, ← l, ← j, active-no) (go (lastOf after x))
   where

@@ -1,12 +1,14 @@
 -- Lists that a walk fills, counts, and the first piece of each task.
 use mathlib.Core.Path.{_≡_, refl, sym, ap, _∙_}
-use mathlib.Core.Bool.{Bool, false, _&&_, cond}
+use mathlib.Core.Bool.{Bool, true, false, _&&_, cond}
 use mathlib.Core.List.{List}
-use Prim.Native.Nat.{ℕ, suc, _+_, _<_}
+use Prim.Native.Nat.{ℕ, suc, _+_, _≤_, _<_}
 use native.Mathlib.Decide.{ℕ-discrete, decLt}
 use native.Mathlib.Omega.{arith}
 use lib.Dec.{leb, eqb}
 use lib.ListN.{getD, set}
+use mir.Syntax.{w32}
+use mir.Val.{Fits, boolByte}
 use borrow.Author.Tests.{le-leb, lt-leb, eq-eqb, ne-eqb}
 use Rattle.tasks.specs.Below.{first, count, tabulate, padded}
 use Rattle.tasks.proofs.Below.{count-more, any-none, first-none, first-is, first-same}
@@ -18,8 +20,19 @@ pub padded-has : {A : Type 0} (size : ℕ) (empty : A) (n : ℕ) (f : ℕ → A)
 padded-has size empty n f xs i e l b = rw e (padded-in size empty n f i l b)
 
 -- one more that is counted or not
-pub count-turn : (f : ℕ → Bool) (i a b : ℕ) (t : Bool) → a ≡ count i f → b ≡ cond t 1 0 → t ≡ f i → a + b ≡ count (i + 1) f
-count-turn f i a b t e q h = rw (e, q, h) (sym (count-more i f))
+bit : (t : Bool) → boolByte t ≡ cond t 1 0
+bit true = refl
+bit false = refl
+
+pub count-turn : (f : ℕ → Bool) (i a : ℕ) (t : Bool) → a ≡ count i f → t ≡ f i → a + boolByte t ≡ count (i + 1) f
+count-turn f i a t e h = rw (bit t, e, h) (sym (count-more i f))
+
+pub count-least : (i a : ℕ) (t : Bool) → a ≤ i → a + boolByte t ≤ i + 1
+count-least i a true l = omega arith
+count-least i a false l = omega arith
+
+pub count-fits : (i a : ℕ) (t : Bool) → a ≤ i → i < 64 → Fits w32 (a + boolByte t)
+count-fits i a t l b = omega (arith, count-least i a t l)
 
 module _ (m : ℕ → ℕ) (n : ℕ) where
   -- the first of the places from j on that holds i, or n

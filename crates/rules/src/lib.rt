@@ -1,12 +1,13 @@
 // The state and the six rules of a tick.
-ghost use mathlib.Core.Bool.{true, not, cond};
+ghost use mathlib.Core.Bool.{true, not, _&&_, cond};
 ghost use mathlib.Core.Path.{_≡_};
 ghost use Prim.Native.Nat.{ℕ, _+_, _≤_, _<_, min};
+ghost use lib.Dec.{eqb};
 ghost use Rattle.tasks.specs.Below.{tabulate, padded};
 ghost use Rattle.tasks.specs.declared.Answer.the-variants.{Accepted};
 ghost use Rattle.plans.specs.Pieces.{taskOf, pieceOf};
 ghost use Rattle.shapes.specs.Shape.{isLast, checkedPlan};
-ghost use Rattle.jobs.specs.Jobs.{noJob, noRun};
+ghost use Rattle.jobs.specs.Jobs.{noJob, noRun, isIdle};
 ghost use Rattle.jobs.specs.Sets.{member};
 ghost use Rattle.jobs.specs.declared.Runner.the-variants.{Runs};
 ghost use Rattle.rules.specs.Advance.{nextState, advance as advancing};
@@ -43,27 +44,23 @@ pub struct Advanced {
 }
 
 // The rules in their order, for any plan, any state and any two sets, or a refusal of the plan or the state.
-pub fn advance(plan: Plan, state: State, finished: Tasks, released: Tasks) -> Advanced
+pub fn advance(plan: Plan, mut state: State, finished: Tasks, released: Tasks) -> Advanced
     ensures { λ r. ⌜ r ≡ advancing plan state finished released ⌝ }
 {
-    let answer = shapes::check_plan(plan);
+    let mut answer = shapes::check_plan(plan);
     match answer {
         Answer::Accepted => {
             let jobs = state.jobs;
             let last = state.last;
             if made::well_made(plan, jobs, last) {
-                let next = state.next(plan, finished, released);
-                Advanced {
-                    answer,
-                    state: next,
-                }
+                state = state.next(plan, finished, released);
             } else {
-                let answer = Answer::Refused(Refusal::NotWellMade);
-                Advanced { answer, state }
+                answer = Answer::Refused(Refusal::NotWellMade);
             }
         }
-        Answer::Refused(_) => Advanced { answer, state },
+        Answer::Refused(_) => {}
     }
+    Advanced { answer, state }
 }
 
 impl State {
@@ -72,18 +69,16 @@ impl State {
         requires { ⌜ (checkedPlan plan ≡ Accepted) × (wellMade plan self ≡ true) ⌝ }
         ensures { λ r. ⌜ r ≡ nextState plan finished released self ⌝ }
     {
-        let count = plan.count;
         let tasks = plan.tasks;
-        let after = self.finish(count, finished);
+        let after = self.finish(plan.count, finished);
         let jobs = after.jobs;
         let last = after.last;
-        let firsts = first_pieces(plan);
-        let ran = after
-            .mark_late(count, tasks)
-            .release(count, firsts, released)
-            .run(plan);
-        ran.count_preempted(plan.cores, jobs, last)
-            .age(count, tasks)
+        after
+            .mark_late(plan.count, tasks)
+            .release(plan.count, first_pieces(plan), released)
+            .run(plan)
+            .count_preempted(plan.cores, jobs, last)
+            .age(plan.count, tasks)
     }
 
     // Rule 1: a finished task ends its job.
@@ -117,7 +112,7 @@ impl State {
             let turns = (jobs::phase_no(job) == 1) & (job.age == tasks[i].deadline) & !job.late;
             job.late = turns | job.late;
             jobs[i] = job;
-            late += one_if(turns);
+            late += turns as u32;
             i += 1;
         }
         self.jobs = jobs;
@@ -160,7 +155,18 @@ impl State {
         requires { ⌜ Sound plan × AtPieces plan self ⌝ }
         ensures { λ r. ⌜ r ≡ padded 64 (plan .count) noStand (standOf plan self) ⌝ }
     {
-        let empty = no_stand();
+        let piece = Piece {
+            task: TaskNo(0),
+            core: CoreNo(0),
+            kind: Kind::Whole,
+            cost: 0,
+        };
+        let empty = Stand {
+            active: false,
+            more: false,
+            piece,
+            deadline: 0,
+        };
         let mut stands = [empty; 64];
         let mut i = 0;
         while i < plan.count {
@@ -192,8 +198,7 @@ impl State {
         while i < plan.count {
             let stand = stands[i];
             let runner = jobs::runner_no(last[stand.piece.core.index()]);
-            let runs = stand.active & (runner == i);
-            jobs[i] = ran_job(self.jobs[i], runs, stand);
+            jobs[i] = ran_job(self.jobs[i], runner == i, stand);
             i += 1;
         }
         jobs
@@ -210,7 +215,7 @@ impl State {
             let task = jobs::runner_no(last[x]);
             let phase = jobs::phase_no(jobs[smaller(task, 63)]);
             let now = jobs::runner_no(self.last[x]);
-            count += one_if((task < 64) & (phase == 1) & (now != task));
+            count += ((task < 64) & (phase == 1) & (now != task)) as u32;
             x += 1;
         }
         self.preemptions = total(self.preemptions, count);
@@ -281,52 +286,46 @@ fn first_pieces(plan: Plan) -> [u8; 256]
     requires { ⌜ plan .placed ≤ 128 ⌝ }
     ensures { λ r. ⌜ r ≡ tabulate 256 (firstPiece plan) ⌝ }
 {
-    let placed = plan.placed;
-    let mut firsts = [placed as u8; 256];
-    let mut j = placed;
+    let mut j = plan.placed;
+    let mut firsts = [j as u8; 256];
     while 0 < j {
         j -= 1;
         let piece = plan.pieces[j];
-        let task = piece.task.index();
-        firsts[task] = j as u8;
+        firsts[piece.task.index()] = j as u8;
     }
     firsts
 }
 
-// Rules 4 and 5 for one job, which runs or not, standing so.
+// Rules 4 and 5 for one job, which its core runs or not, standing so.
 fn ran_job(mut job: Job, runs: bool, stand: Stand) -> Job
     requires { ⌜ (stand .more ≡ true → job .piece < 255) ⌝ }
-    ensures { λ r. ⌜ ((p : Plan) → pieceOf p (job .piece) ≡ stand .piece → isLast (pieceOf p) (p .placed) (job .piece) ≡ not (stand .more) → r ≡ cond runs (ranJob p job) job) ⌝ }
+    ensures { λ r. ⌜ ((p : Plan) → pieceOf p (job .piece) ≡ stand .piece → isLast (pieceOf p) (p .placed) (job .piece) ≡ not (stand .more) → r ≡ cond (stand .active && runs) (ranJob p job) job) ⌝ }
 {
-    if runs {
+    if stand.active & runs {
         if (job.ran as u64) + 1 < stand.piece.cost as u64 {
             job.ran += 1;
-            job
         } else if stand.more {
             job.piece += 1;
             job.ran = 0;
-            job
         } else {
-            ended_job(job)
+            job = ended_job(job);
         }
-    } else {
-        job
     }
+    job
 }
 
 // Rule 6 for one job, whose task has this period.
 fn aged_job(mut job: Job, period: u32) -> Job
     ensures { λ r. ⌜ ((p : Plan) (i : ℕ) → taskOf p i .period ≡ period → r ≡ agedJob p i job) ⌝ }
 {
-    if jobs::phase_no(job) == 0 {
-        job
-    } else if job.age < period {
-        job.age += 1;
-        job
-    } else {
-        job.age = period;
-        job
+    if jobs::phase_no(job) != 0 {
+        if job.age < period {
+            job.age += 1;
+        } else {
+            job.age = period;
+        }
     }
+    job
 }
 
 // ---- The choice of what runs on each core.
@@ -353,24 +352,24 @@ fn choose(plan: Plan, stands: [Stand; 64]) -> [CoreRun; 16]
         let stand = stands[i];
         let x = stand.piece.core.index();
         let found = runs[x];
-        let held = stands[smaller(jobs::runner_no(found), 63)];
-        runs[x] = better(found, held, stand, i as u8);
+        let no = jobs::runner_no(found);
+        runs[x] = better(found, no, stands[smaller(no, 63)], stand, i as u8);
         i += 1;
     }
     runs
 }
 
-// The best on a core, one more job there being looked at: `found` is the best so far, `held` where its job stands.
-fn better(found: CoreRun, held: Stand, stand: Stand, task: u8) -> CoreRun
+// The best on a core, one more job there being looked at: `found` is the best so far, `no` its number and `held` where its job stands.
+fn better(mut found: CoreRun, no: usize, held: Stand, stand: Stand, task: u8) -> CoreRun
+    requires { ⌜ eqb no 256 ≡ isIdle (found .runner) ⌝ }
     ensures { λ r. ⌜ ((p : Plan) (s : State) → stand ≡ standOf p s task → found ≡ foundBest p s task (stand .piece .core .0) → ((t : TaskNo) → found .runner ≡ Runs t → held ≡ standOf p s (t .0)) → r ≡ foundBest p s (task + 1) (stand .piece .core .0)) ⌝ }
 {
     let above = plans::outranks(stand.piece, stand.deadline, held.piece, held.deadline);
-    if stand.active & ((jobs::runner_no(found) == 256) | above) {
+    if stand.active & ((no == 256) | above) {
         let runner = Runner::Runs(TaskNo(task));
-        CoreRun { runner }
-    } else {
-        found
+        found = CoreRun { runner };
     }
+    found
 }
 
 // ---- Totals, and empty things.
@@ -384,12 +383,6 @@ fn total(base: u32, k: u32) -> u32
     } else {
         4294967295
     }
-}
-
-fn one_if(counts: bool) -> u32
-    ensures { λ r. ⌜ (r ≡ cond counts 1 0) × (r ≤ 1) ⌝ }
-{
-    if counts { 1 } else { 0 }
 }
 
 // The smaller of two counts.
@@ -408,22 +401,5 @@ fn no_job() -> Job
         piece: 0,
         age: 0,
         ran: 0,
-    }
-}
-
-fn no_stand() -> Stand
-    ensures { λ r. ⌜ r ≡ noStand ⌝ }
-{
-    let piece = Piece {
-        task: TaskNo(0),
-        core: CoreNo(0),
-        kind: Kind::Whole,
-        cost: 0,
-    };
-    Stand {
-        active: false,
-        more: false,
-        piece,
-        deadline: 0,
     }
 }

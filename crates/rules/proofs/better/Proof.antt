@@ -6,14 +6,11 @@ use Rattle.rules.proofs.better.Tie as tie
 outranks-requires : tie.Need-outranks-requires
 outranks-requires c κs = search needs
 
-runner-no-requires : tie.Need-runner-no-requires
-runner-no-requires c κs = search needs
-
 returns : tie.Need-returns
-returns c = λ p s q f h. better-turn p s _ _ _ _ (c .before .before .runner-no .result) _ _ q f h (c .before .before .runner-no .ensures .2) (c .before .before .before .outranks .ensures) (c .if1 .taken)
+returns c = λ p s q f h. better-turn p s _ _ _ _ (c .before .before .before .args .no) _ _ q f h (c .before .before .before .pre) (c .before .before .outranks .ensures) (c .if1 .taken)
 
 returns-2 : tie.Need-returns-2
-returns-2 c = λ p s q f h. better-turn p s _ _ _ _ (c .before .before .runner-no .result) _ _ q f h (c .before .before .runner-no .ensures .2) (c .before .before .before .outranks .ensures) (c .if1 .left)
+returns-2 c = λ p s q f h. better-turn p s _ _ _ _ (c .before .before .before .args .no) _ _ q f h (c .before .before .before .pre) (c .before .before .outranks .ensures) (c .if1 .left)
 
 pub better-spec : {M : Type 1} → statement M
-better-spec = tie.close (tie.spec outranks-requires runner-no-requires returns returns-2)
+better-spec = tie.close (tie.spec outranks-requires returns returns-2)

@@ -47,17 +47,17 @@ runner-no-requires c κs = search needs
 smaller-requires : tie.Need-smaller-requires Inv-loop μ-loop
 smaller-requires c κs = search needs
 
-mul-held : tie.Need-mul-held Inv-loop μ-loop
-mul-held c = search needs
+mul-better : tie.Need-mul-better Inv-loop μ-loop
+mul-better c = search needs
 
-array-copy-out-held : tie.Need-array-copy-out-held Inv-loop μ-loop
-array-copy-out-held c = omega (arith, c .smaller .ensures)
+array-copy-out-better : tie.Need-array-copy-out-better Inv-loop μ-loop
+array-copy-out-better c = omega (arith, c .smaller .ensures)
 
 cast-better : tie.Need-cast-better Inv-loop μ-loop
 cast-better c = omega (arith, c .before .before .before .before .before .before .before .before .before .pre .0 .count)
 
 better-requires : tie.Need-better-requires Inv-loop μ-loop
-better-requires c κs = search needs
+better-requires c κs = c .before .before .runner-no .ensures .2
 
 mul-runs : tie.Need-mul-runs Inv-loop μ-loop
 mul-runs c = search needs
@@ -94,8 +94,8 @@ choose-spec =
     array-copy-out-found
     runner-no-requires
     smaller-requires
-    mul-held
-    array-copy-out-held
+    mul-better
+    array-copy-out-better
     cast-better
     better-requires
     mul-runs

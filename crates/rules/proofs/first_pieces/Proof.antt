@@ -11,10 +11,10 @@ use Rattle.rules.proofs.first_pieces.Statement.{statement}
 use Rattle.rules.proofs.first_pieces.Tie as tie
 
 abbrev Inv-loop : tie.InvT-loop
-Inv-loop plan placed firsts₀ j₀ firsts j = (j ≤ placed) × (placed ≤ 128) × (firsts ≡ tabulate 256 (firstFrom (λ k. pieceOf plan k .task .0) placed j))
+Inv-loop plan j₀ firsts₀ j firsts = (j ≤ plan .placed) × (plan .placed ≤ 128) × (firsts ≡ tabulate 256 (firstFrom (λ k. pieceOf plan k .task .0) (plan .placed) j))
 
 abbrev μ-loop : tie.MeasureT-loop
-μ-loop plan placed firsts₀ j₀ firsts j = j
+μ-loop plan j₀ firsts₀ j firsts = j
 
 cast-firsts : tie.Need-cast-firsts Inv-loop μ-loop
 cast-firsts c = search needs
@@ -61,8 +61,8 @@ first-pieces-spec =
     sub-j
     mul-piece
     element-copy-out-piece
-    index-requires
     cast-firsts-2
+    index-requires
     array-write-firsts
     loop-less
     loop-again

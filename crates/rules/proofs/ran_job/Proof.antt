@@ -17,7 +17,7 @@ add-job : tie.Need-add-job
 add-job c = search needs
 
 add-job-2 : tie.Need-add-job-2
-add-job-2 c = omega (arith, c .before .before .before .before .before .before .pre (c .before .if3 .taken))
+add-job-2 c = omega (arith, c .before .before .before .before .before .before .before .pre (c .before .if3 .taken))
 
 ended-job-requires : tie.Need-ended-job-requires
 ended-job-requires c κs = search needs

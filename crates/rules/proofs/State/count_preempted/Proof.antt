@@ -1,3 +1,4 @@
+use mathlib.Core.Bool.{Bool}
 use mathlib.Core.Path.{_≡_, refl}
 use Prim.Native.Nat.{_-_, _≤_}
 use native.Mathlib.Omega.{arith}
@@ -6,8 +7,8 @@ use borrow.Author.Needs.{needs}
 use Rattle.tasks.specs.Below.{sum, count as counted}
 use Rattle.rules.specs.Rules.{preempted, countPreempted}
 use Rattle.rules.specs.declared.State.{State}
-use Rattle.rules.proofs.Reading.{pushed-read}
-use Rattle.rules.proofs.Walks.{count-turn}
+use Rattle.rules.proofs.Reading.{pushedBy, pushed-read}
+use Rattle.rules.proofs.Walks.{count-turn, count-least, count-fits}
 use Rattle.rules.proofs.State.count_preempted.Statement.{statement}
 use Rattle.rules.proofs.State.count_preempted.Tie as tie
 
@@ -16,6 +17,10 @@ Inv-loop cores self jobs last count₀ x₀ count x = (x ≤ cores) × (cores �
 
 abbrev μ-loop : tie.MeasureT-loop
 μ-loop cores self jobs last count₀ x₀ count x = cores - x
+
+-- what is read of a core
+abbrev pushes : tie.After-runner-no2 Inv-loop μ-loop → Bool
+pushes c = pushedBy (c .before .before .before .before .before .runner-no .result) (c .before .before .phase-no .result) (c .runner-no2 .result)
 
 loop-holds : tie.Need-loop-holds Inv-loop μ-loop
 unfolding counted sum
@@ -51,11 +56,11 @@ element-copy-out-runner-no c = search needs
 runner-no-requires-2 : tie.Need-runner-no-requires-2 Inv-loop μ-loop
 runner-no-requires-2 c κs = search needs
 
-one-if-requires : tie.Need-one-if-requires Inv-loop μ-loop
-one-if-requires c κs = search needs
+cast-count : tie.Need-cast-count Inv-loop μ-loop
+cast-count c = search needs
 
 add-count : tie.Need-add-count Inv-loop μ-loop
-add-count c = search needs
+add-count c = let b = c .before .before .before .before .before .before .before .before in count-fits _ _ (pushes c) (b .loop .inv .2) (omega arith)
 
 add-x : tie.Need-add-x Inv-loop μ-loop
 add-x c = search needs
@@ -65,10 +70,10 @@ loop-less c = search needs
 
 loop-again : tie.Need-loop-again Inv-loop μ-loop
 loop-again c =
-    let b = c .before .before .before .before .before .before .before .before .before in
+    let b = c .before .before .before .before .before .before .before .before in
     let a = b .before .args in
     let size : length (a .t3) ≡ 64 = b .before .good .1 .1 .0 .1 .0 .1 in
-    (search needs, search needs, omega arith, λ after j l. count-turn _ _ _ _ _ (b .loop .inv .3 after j l) (c .one-if .ensures .0) (pushed-read after (a .t1) (a .t3) (a .t4) (b .loop .x) _ _ _ _ size j l (c .before .before .before .before .before .before .runner-no .ensures .0) (c .before .before .before .before .before .smaller .ensures) (c .before .before .before .phase-no .ensures) (c .before .runner-no2 .ensures .0)))
+    (search needs, search needs, count-least _ _ (pushes c) (b .loop .inv .2), λ after j l. count-turn _ _ _ _ (b .loop .inv .3 after j l) (pushed-read after (a .t1) (a .t3) (a .t4) (b .loop .x) _ _ _ _ size j l (c .before .before .before .before .before .runner-no .ensures .0) (c .before .before .before .before .smaller .ensures) (c .before .before .phase-no .ensures) (c .runner-no2 .ensures .0)))
 
 total-requires : tie.Need-total-requires Inv-loop μ-loop
 total-requires c κs = search needs
@@ -94,7 +99,7 @@ count-preempted-spec =
     mul-runner-no-2
     element-copy-out-runner-no
     runner-no-requires-2
-    one-if-requires
+    cast-count
     add-count
     add-x
     loop-less

@@ -1,3 +1,4 @@
+use mathlib.Core.Bool.{Bool}
 use mathlib.Core.Path.{_≡_, refl}
 use Prim.Native.Nat.{_-_, _≤_}
 use native.Mathlib.Omega.{arith}
@@ -8,8 +9,8 @@ use Rattle.tasks.specs.Below.{sum, count as counted, padded}
 use Rattle.jobs.specs.Jobs.{noJob}
 use Rattle.rules.specs.Rules.{markLate, eachJob}
 use Rattle.rules.specs.States.{jobOf}
-use Rattle.rules.proofs.Reading.{turnsAt, markedAt, turns-read, marked-read}
-use Rattle.rules.proofs.Walks.{count-turn}
+use Rattle.rules.proofs.Reading.{turnsAt, markedAt, turnsBy, turns-read, marked-read}
+use Rattle.rules.proofs.Walks.{count-turn, count-least, count-fits}
 use Rattle.rules.proofs.State.mark_late.Statement.{statement}
 use Rattle.rules.proofs.State.mark_late.Tie as tie
 
@@ -18,6 +19,10 @@ Inv-loop count self₀ tasks jobs₀ late₀ i₀ self jobs late i = (i ≤ coun
 
 abbrev μ-loop : tie.MeasureT-loop
 μ-loop count self₀ tasks jobs₀ late₀ i₀ self jobs late i = count - i
+
+-- what is read of a job
+abbrev turns : tie.After-struct-known3 Inv-loop μ-loop → Bool
+turns c = let b = c .before .before .before .before .before .before in turnsBy (b .before .before .args .t3) (b .loop .i) (jobOf (b .loop .self) (b .loop .i)) (c .before .before .before .phase-no .result)
 
 no-job-requires : tie.Need-no-job-requires Inv-loop μ-loop
 no-job-requires c κs = search needs
@@ -47,11 +52,11 @@ mul-jobs c = search needs
 array-set-from-jobs : tie.Need-array-set-from-jobs Inv-loop μ-loop
 array-set-from-jobs c = search needs
 
-one-if-requires : tie.Need-one-if-requires Inv-loop μ-loop
-one-if-requires c κs = search needs
+cast-late : tie.Need-cast-late Inv-loop μ-loop
+cast-late c = search needs
 
 add-late : tie.Need-add-late Inv-loop μ-loop
-add-late c = search needs
+add-late c = let b = c .before .before .before .before .before .before in count-fits _ _ (turns c) (b .loop .inv .2) (omega arith)
 
 add-i : tie.Need-add-i Inv-loop μ-loop
 add-i c = search needs
@@ -61,11 +66,11 @@ loop-less c = search needs
 
 loop-again : tie.Need-loop-again Inv-loop μ-loop
 loop-again c =
-    let b = c .before .before .before .before .before .before .before in
+    let b = c .before .before .before .before .before .before in
     let ts = b .before .before .args .t3 in
     let j = jobOf (b .loop .self) (b .loop .i) in
-    let h = turns-read ts (b .loop .i) j _ (c .before .before .before .before .phase-no .ensures) in
-    (search needs, search needs, omega arith, b .loop .inv .3, count-turn _ _ _ _ _ (b .loop .inv .4) (c .one-if .ensures .0) h, padded-turn 64 noJob _ _ _ _ (search needs) (b .loop .inv .5) (marked-read ts (b .loop .i) j _ h))
+    let h = turns-read ts (b .loop .i) j _ (c .before .before .before .phase-no .ensures) in
+    (search needs, search needs, count-least _ _ (turns c) (b .loop .inv .2), b .loop .inv .3, count-turn _ _ _ _ (b .loop .inv .4) h, padded-turn 64 noJob _ _ _ _ (search needs) (b .loop .inv .5) (marked-read ts (b .loop .i) j _ h))
 
 total-requires : tie.Need-total-requires Inv-loop μ-loop
 total-requires c κs = search needs
@@ -89,7 +94,7 @@ mark-late-spec =
     element-copy-out-turns
     mul-jobs
     array-set-from-jobs
-    one-if-requires
+    cast-late
     add-late
     add-i
     loop-less

@@ -8,17 +8,17 @@ use Rattle.rules.proofs.State.next.Tie as tie
 finish-requires : tie.Need-finish-requires
 finish-requires c κs = good (c .before .args .plan) (c .before .pre .0) .count
 
-first-pieces-requires : tie.Need-first-pieces-requires
-first-pieces-requires c κs = let s = c .before .before .before .before in good (s .args .plan) (s .pre .0) .placed
-
 mark-late-requires : tie.Need-mark-late-requires
-mark-late-requires c κs = let s = c .before .before .before .before .before in good (s .args .plan) (s .pre .0) .count
+mark-late-requires c κs = let s = c .before .before .before .before in good (s .args .plan) (s .pre .0) .count
+
+first-pieces-requires : tie.Need-first-pieces-requires
+first-pieces-requires c κs = let s = c .before .before .before .before .before in good (s .args .plan) (s .pre .0) .placed
 
 release-requires : tie.Need-release-requires
 release-requires c κs = let s = c .before .before .before .before .before .before in good (s .args .plan) (s .pre .0) .count
 
 run-requires : tie.Need-run-requires
-run-requires c κs = let s = c .before .before .before .before .before .before .before in let p = s .args .plan in let g = good p (s .pre .0) in (sound p g, rw (c .release .ensures p refl (c .before .before .first-pieces .ensures), c .before .mark-late .ensures p refl refl, c .before .before .before .before .before .finish .ensures p refl) (ready-pieces p g (s .args .finished) (s .args .released) (s .args .self) (s .pre .1)))
+run-requires c κs = let s = c .before .before .before .before .before .before .before in let p = s .args .plan in let g = good p (s .pre .0) in (sound p g, rw (c .release .ensures p refl (c .before .first-pieces .ensures), c .before .before .mark-late .ensures p refl refl, c .before .before .before .before .before .finish .ensures p refl) (ready-pieces p g (s .args .finished) (s .args .released) (s .args .self) (s .pre .1)))
 
 count-preempted-requires : tie.Need-count-preempted-requires
 count-preempted-requires c κs = let s = c .before .before .before .before .before .before .before .before in good (s .args .plan) (s .pre .0) .cores
@@ -31,15 +31,15 @@ unfolding nextState
 returns c =
     let f = c .before .before .before .before .before .before .before .before in
     let p = f .before .before .args .plan in
-    simp (c .age .ensures p refl refl, c .before .count-preempted .ensures p (f .finish .result) refl refl refl, c .before .before .run .ensures, c .before .before .before .release .ensures p refl (c .before .before .before .before .before .first-pieces .ensures), c .before .before .before .before .mark-late .ensures p refl refl, f .finish .ensures p refl)
+    simp (c .age .ensures p refl refl, c .before .count-preempted .ensures p (f .finish .result) refl refl refl, c .before .before .run .ensures, c .before .before .before .release .ensures p refl (c .before .before .before .before .first-pieces .ensures), c .before .before .before .before .before .mark-late .ensures p refl refl, f .finish .ensures p refl)
 
 pub next-spec : {M : Type 1} → statement M
 next-spec =
     tie.close
     (tie.spec
     finish-requires
-    first-pieces-requires
     mark-late-requires
+    first-pieces-requires
     release-requires
     run-requires
     count-preempted-requires

@@ -54,7 +54,7 @@ element-copy-out-ran-job : tie.Need-element-copy-out-ran-job Inv-loop μ-loop
 element-copy-out-ran-job c = search needs
 
 ran-job-requires : tie.Need-ran-job-requires Inv-loop μ-loop
-ran-job-requires c κs = let b = c .before .before .before .before .before .before .before .before in let a = b .before .before .args in stand-next (a .plan) (a .t1) (b .loop .inv .1) _ (b .loop .inv .2) (b .loop .i) (c .before .before .before .before .before .before .if1 .taken)
+ran-job-requires c κs = let b = c .before .before .before .before .before .before .before in let a = b .before .before .args in stand-next (a .plan) (a .t1) (b .loop .inv .1) _ (b .loop .inv .2) (b .loop .i) (c .before .before .before .before .before .if1 .taken)
 
 mul-jobs : tie.Need-mul-jobs Inv-loop μ-loop
 mul-jobs c = search needs
@@ -70,13 +70,13 @@ loop-less c = search needs
 
 loop-again : tie.Need-loop-again Inv-loop μ-loop
 loop-again c =
-    let b = c .before .before .before .before .before .before .before .before .before in
+    let b = c .before .before .before .before .before .before .before .before in
     let a = b .before .before .args in
     let n = b .loop .inv in
-    let h : b .loop .i < a .plan .count = c .before .before .before .before .before .before .before .if1 .taken in
+    let h : b .loop .i < a .plan .count = c .before .before .before .before .before .before .if1 .taken in
     let q = stand-is (a .plan) (a .t1) (n .1) _ (n .2) (b .loop .i) h in
     let x = stand-core (a .plan) (a .t1) (n .1) _ (n .2) (b .loop .i) h in
-    (search needs, n .1, n .2, n .3, padded-turn 64 noJob _ _ _ _ (omega (arith, n .1 .count)) (n .4) (ran-turn (a .plan) (a .t1) (b .loop .i) _ _ _ _ (omega (arith, n .1 .count)) q (ap (λ (k : ℕ). getD (a .t4) k noRun) (c .before .before .before .before .before .index .ensures .0) ∙ padded-has 16 noRun _ (chosen (a .plan) (a .t1)) _ _ (n .3) x (omega (arith, x, n .1 .cores))) (c .before .before .before .runner-no .ensures .0) (c .ran-job .ensures (a .plan))))
+    (search needs, n .1, n .2, n .3, padded-turn 64 noJob _ _ _ _ (omega (arith, n .1 .count)) (n .4) (ran-turn (a .plan) (a .t1) (b .loop .i) _ _ _ _ (omega (arith, n .1 .count)) q (ap (λ (k : ℕ). getD (a .t4) k noRun) (c .before .before .before .before .index .ensures .0) ∙ padded-has 16 noRun _ (chosen (a .plan) (a .t1)) _ _ (n .3) x (omega (arith, x, n .1 .cores))) (c .before .before .runner-no .ensures .0) (c .ran-job .ensures (a .plan))))
 
 returns : tie.Need-returns Inv-loop μ-loop
 unfolding run eachJob

@@ -20,14 +20,11 @@ abbrev μ-loop : tie.MeasureT-loop
 μ-loop self plan stands₀ i₀ stands i = plan .count - i
 
 -- the job's piece is one of the plan's
-at-piece : (c : tie.After-struct-known Inv-loop μ-loop) → jobOf (c .before .before .before .before .before .args .t1) (c .before .before .before .loop .i) .piece < c .before .before .before .before .before .args .t2 .placed
+at-piece : (c : tie.After-struct-known Inv-loop μ-loop) → jobOf (c .before .before .before .before .args .t1) (c .before .before .before .loop .i) .piece < c .before .before .before .before .args .t2 .placed
 at-piece c = c .before .before .before .loop .inv .2 (c .before .before .before .loop .i) (c .before .before .loop-test .taken)
 
-no-stand-requires : tie.Need-no-stand-requires Inv-loop μ-loop
-no-stand-requires c κs = search needs
-
 loop-holds : tie.Need-loop-holds Inv-loop μ-loop
-loop-holds c = (search needs, c .before .pre .0, c .before .pre .1, rw (c .no-stand .ensures) (padded-start 64 noStand _))
+loop-holds c = (search needs, c .pre .0, c .pre .1, padded-start 64 noStand _)
 
 mul-job : tie.Need-mul-job Inv-loop μ-loop
 mul-job c = search needs
@@ -65,11 +62,11 @@ phase-no-requires c κs = search needs
 index-requires-2 : tie.Need-index-requires-2 Inv-loop μ-loop
 index-requires-2 c κs = search needs
 
-mul-t29 : tie.Need-mul-t29 Inv-loop μ-loop
-mul-t29 c = search needs
+mul-t33 : tie.Need-mul-t33 Inv-loop μ-loop
+mul-t33 c = search needs
 
-element-copy-out-t32 : tie.Need-element-copy-out-t32 Inv-loop μ-loop
-element-copy-out-t32 c = let n = c .before .before .before .before .before .before .before .before .before .loop .inv in omega (arith, n .1 .tasks _ (at-piece (c .before .before .before .before .before .before)), n .1 .count, c .before .before .before .before .index .ensures .0)
+element-copy-out-t36 : tie.Need-element-copy-out-t36 Inv-loop μ-loop
+element-copy-out-t36 c = let n = c .before .before .before .before .before .before .before .before .before .loop .inv in omega (arith, n .1 .tasks _ (at-piece (c .before .before .before .before .before .before)), n .1 .count, c .before .before .before .before .index .ensures .0)
 
 mul-stands : tie.Need-mul-stands Inv-loop μ-loop
 mul-stands c = search needs
@@ -86,13 +83,13 @@ loop-less c = search needs
 loop-again : tie.Need-loop-again Inv-loop μ-loop
 loop-again c =
     let b = c .before .before .before .before .before .before .before .before .before in
-    let a = b .before .before .args in
+    let a = b .before .args in
     let n = b .loop .inv in
     let task = c .before .before .before .before .index .ensures .0 in
     (search needs, n .1, n .2, padded-turn 64 noStand _ _ _ _ (omega (arith, n .1 .count)) (n .3) (stand-made (a .t2) (a .t1) (b .loop .i) _ _ _ task (c .before .phase-no .ensures) (more-read (a .t2) _ _ _ _ (n .1 .placed) (c .before .before .before .smaller .ensures) task (c .index2 .ensures .0))))
 
 returns : tie.Need-returns Inv-loop μ-loop
-returns c = let e : c .before .loop .i ≡ c .before .before .before .args .t2 .count = omega arith in rw (c .before .loop .inv .3, e)
+returns c = let e : c .before .loop .i ≡ c .before .before .args .t2 .count = omega arith in rw (c .before .loop .inv .3, e)
 
 pub stands-spec : {M : Type 1} → statement M
 stands-spec =
@@ -100,7 +97,6 @@ stands-spec =
     (tie.spec
     Inv-loop
     μ-loop
-    no-stand-requires
     loop-holds
     mul-job
     element-copy-out-job
@@ -114,8 +110,8 @@ stands-spec =
     element-copy-out-next
     phase-no-requires
     index-requires-2
-    mul-t29
-    element-copy-out-t32
+    mul-t33
+    element-copy-out-t36
     mul-stands
     array-set-from-stands
     add-i
