@@ -1,6 +1,6 @@
 // Jobs, what runs on a core, and sets of tasks.
 ghost use mathlib.Core.Path.{_≡_};
-ghost use Prim.Native.Nat.{_≤_, min};
+ghost use Prim.Native.Nat.{_≤_};
 ghost use lib.Dec.{eqb};
 ghost use Rattle.tasks.specs.Below.{tabulate};
 ghost use Rattle.jobs.specs.Jobs.{phaseNo, isIdle, runnerNo};
@@ -65,7 +65,7 @@ pub fn runner_no(core: CoreRun) -> usize
 pub fn marks(tasks: Tasks) -> [bool; 256]
     ensures { λ r. ⌜ r ≡ tabulate 256 (member tasks) ⌝ }
 {
-    let count = smaller(tasks.count, 64);
+    let count = tasks::smaller(tasks.count, 64);
     let mut marks = [false; 256];
     let mut k = 0;
     while k < count {
@@ -75,11 +75,4 @@ pub fn marks(tasks: Tasks) -> [bool; 256]
         k += 1;
     }
     marks
-}
-
-// The smaller of two counts.
-fn smaller(a: usize, b: usize) -> usize
-    ensures { λ r. ⌜ r ≡ min a b ⌝ }
-{
-    if a < b { a } else { b }
 }

@@ -9,7 +9,6 @@ use native.Mathlib.Omega.{arith}
 use Rattle.tasks.proofs.Below.{first-holds, first-none}
 use Rattle.tasks.specs.Below.{any, first}
 use Rattle.tasks.specs.Tables.{checkedTable}
-use Rattle.tasks.specs.Tables as table
 use Rattle.tasks.specs.declared.Answer.the-variants.{Accepted, Refused}
 use Rattle.tasks.specs.declared.Refusal.{Refusal}
 use Rattle.tasks.specs.declared.Table.{Table}

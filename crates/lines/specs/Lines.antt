@@ -2,7 +2,7 @@
 use mathlib.Core.List.{List, [], _++_}
 use Prim.Native.Nat.{ℕ, zero, suc, min}
 use lib.ListN.{getD}
-use Rattle.writing.specs.Fields.{row}
+use Rattle.tasks.specs.Below.{row}
 use Rattle.jobs.specs.Jobs.{noRun}
 use Rattle.jobs.specs.declared.CoreRun.{CoreRun}
 use Rattle.jobs.specs.declared.Runner.{Runner}

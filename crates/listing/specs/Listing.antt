@@ -1,6 +1,7 @@
 -- What the lister prints, byte for byte.
 use mathlib.Core.List.{List, _++_}
 use Prim.Native.Nat.{ℕ, min}
+use Rattle.tasks.specs.Below.{row}
 use Rattle.plans.specs.Pieces.{pieceOf}
 use Rattle.plans.specs.declared.Kind.{Kind}
 use Rattle.plans.specs.declared.Kind.the-variants.{Whole, Share}
@@ -8,7 +9,6 @@ use Rattle.plans.specs.declared.Piece.{Piece}
 use Rattle.plans.specs.declared.Plan.{Plan}
 use Rattle.layout.specs.Layout.{planned}
 use Rattle.layout.specs.declared.Planned.{Planned}
-use Rattle.writing.specs.Fields.{row}
 use Rattle.reading.specs.declared.ReadTable.{ReadTable}
 use Rattle.telling.specs.Telling.{answerText}
 use Rattle.texts.specs.Text.{ascii, decimal}

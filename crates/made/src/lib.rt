@@ -23,12 +23,12 @@ pub fn well_made(plan: Plan, jobs: [Job; 64], last: [CoreRun; 16]) -> bool
 fn jobs_well_made(plan: Plan, jobs: [Job; 64]) -> bool
     ensures { λ r. ⌜ r ≡ jobsWellMade plan jobs ⌝ }
 {
-    let count = smaller(plan.count, 64);
+    let count = tasks::smaller(plan.count, 64);
     let mut good = true;
     let mut i = 0;
     while i < count {
         let job = jobs[i];
-        let here = plan.pieces[smaller(job.piece as usize, 127)];
+        let here = plan.pieces[tasks::smaller(job.piece as usize, 127)];
         good = good & job_well_made(i, plan.tasks[i], job, here, plan.placed);
         i += 1;
     }
@@ -39,14 +39,14 @@ fn jobs_well_made(plan: Plan, jobs: [Job; 64]) -> bool
 fn cores_well_made(plan: Plan, jobs: [Job; 64], last: [CoreRun; 16]) -> bool
     ensures { λ r. ⌜ r ≡ coresWellMade plan jobs last ⌝ }
 {
-    let count = smaller(plan.count, 64);
-    let cores = smaller(plan.cores, 16);
+    let count = tasks::smaller(plan.count, 64);
+    let cores = tasks::smaller(plan.cores, 16);
     let mut seen = [false; 257];
     let mut good = true;
     let mut x = 0;
     while x < cores {
         let task = jobs::runner_no(last[x]);
-        let phase = jobs::phase_no(jobs[smaller(task, 63)]);
+        let phase = jobs::phase_no(jobs[tasks::smaller(task, 63)]);
         good = good & ((task == 256) | ((task < count) & (0 < phase) & !seen[task]));
         seen[task] = true;
         x += 1;
@@ -71,11 +71,4 @@ fn job_well_made(i: usize, task: Task, job: Job, here: Piece, placed: usize) -> 
         Phase::Active => fits & exists,
         Phase::Ended => fits & nowhere,
     }
-}
-
-// The smaller of two counts.
-fn smaller(a: usize, b: usize) -> usize
-    ensures { λ r. ⌜ r ≡ min a b ⌝ }
-{
-    if a < b { a } else { b }
 }

@@ -16,7 +16,6 @@ ghost use Rattle.layout.specs.Shared.{sharePiece, shareFrom};
 ghost use Rattle.layout.specs.Whole as whole;
 ghost use Rattle.planner.specs.Asked.{Ready, OwnDeadlines, Alone, found};
 ghost use Rattle.layout.specs.Whole.{draft, keepsBound, takesWhole};
-use layout::Draft;
 use layout::Planned;
 use plans::Kind;
 use plans::Piece;

@@ -1,6 +1,6 @@
 // The vocabulary of plans: pieces, plans, and the margin of a piece; interference and rank.
 ghost use mathlib.Core.Path.{_≡_};
-ghost use Prim.Native.Nat.{_-_, _≤_, _<_};
+ghost use Prim.Native.Nat.{_≤_, _<_};
 ghost use Rattle.plans.specs.Margins as meaning;
 ghost use Rattle.plans.specs.Interference.{interference};
 ghost use Rattle.plans.specs.Rank as rank;

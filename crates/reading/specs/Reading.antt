@@ -1,6 +1,5 @@
 -- Reading: a file is read field after field from its start, and where it ends it is answered and its record is given.
-use mathlib.Core.Bool.{Bool, true, false, not, cond}
-use mathlib.Core.List.{List}
+use mathlib.Core.Bool.{Bool, false, not, cond}
 use Prim.Native.Nat.{ℕ}
 use lib.Dec.{ltb, eqb}
 use lib.ListN.{replicate}
@@ -13,7 +12,7 @@ use Rattle.tasks.specs.declared.Refusal.the-variants.{CutShort, WrongTag, Wrong
 use Rattle.plans.specs.Pieces.{noPiece}
 use Rattle.shapes.specs.Shape.{checkedPlan}
 use Rattle.plans.specs.declared.Plan.{Plan}
-use Rattle.fields.specs.Fields.{fieldAt, refusedField, read}
+use Rattle.fields.specs.Fields.{fieldAt, refusedField}
 use Rattle.fields.specs.declared.Field.{Field}
 use Rattle.fields.specs.declared.Reader.{Reader}
 use Rattle.reading.specs.declared.ReadPlan.{ReadPlan}

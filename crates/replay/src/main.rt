@@ -3,7 +3,7 @@ ghost use Prim.Native.Nat.{_≤_, _<_};
 ghost use lib.ListN.{length};
 use libc::STDIN_FILENO;
 use plans::Plan;
-use replays::Player;
+use players::Player;
 use tasks::Answer;
 use tasks::Place;
 use tasks::Refusal;
@@ -45,7 +45,7 @@ fn feed_some(mut player: Player) -> Fed {
 // All ticks of the input, from its byte `start` on, and the totals.
 // A proved loop has to end, and nothing says that an input does: the loop counts its turns down, from a number that no run uses up.
 fn replay(plan: Plan, start: usize) {
-    let mut player = replays::start(start);
+    let mut player = players::start(start);
     let mut more = true;
     let mut turns = u64::MAX;
     while turns > 0 && more {
@@ -55,7 +55,7 @@ fn replay(plan: Plan, start: usize) {
         more = fed.more;
         turns -= 1;
     }
-    let answer = replays::last(player);
+    let answer = players::last(player);
     if let Answer::Refused(refusal) = answer {
         console::print(telling::refusal(Text::empty(), refusal));
     }

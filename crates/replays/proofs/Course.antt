@@ -10,7 +10,6 @@ use lib.ListN.{length, getD, take, drop, length-take, length-drop, drop-of-lengt
 use lib.Seq.{drop-drop, ext-getD, getD-take, getD-drop}
 use Rattle.tasks.specs.Below.{padded}
 use Rattle.tasks.proofs.Padded.{padded-same}
-use Rattle.tasks.specs.declared.Answer.{Answer}
 use Rattle.tasks.specs.declared.Answer.the-variants.{Accepted, Refused}
 use Rattle.tasks.specs.declared.Refusal.{Refusal}
 use Rattle.plans.specs.declared.Plan.{Plan}
@@ -21,14 +20,16 @@ use Rattle.texts.specs.Text.{noText, puts, textOf}
 use Rattle.texts.specs.declared.Text.{Text}
 use Rattle.texts.proofs.Putting.{puts-parts}
 use Rattle.rules.specs.declared.State.{State}
-use Rattle.tasks.specs.Places.{further}
-use Rattle.replays.specs.Requests.{requestSize, requestAnswer}
-use Rattle.replays.specs.Replay.{placeAt, tickAsked, Standing, next, played, wholes, atHand, standing, playedOn, lastAnswer}
+use Rattle.tasks.specs.Places.{placeAt, further}
+use Rattle.requests.specs.Requests.{requestSize, requestAnswer, judged}
+use Rattle.requests.specs.declared.Judged.{Judged}
+use Rattle.replays.specs.Replay.{tickAsked, Standing, next, played, wholes, standing, playedOn}
+use Rattle.players.specs.Players.{atHand}
 use Rattle.replays.specs.Turns.{endOf, beginOf, handed, finishesOf, releasesOf, shownOf, shotOf, shotAfter}
-use Rattle.replays.specs.declared.Player.{Player}
+use Rattle.players.specs.declared.Player.{Player}
 use Rattle.replays.specs.declared.Reel.{Reel}
 use Rattle.replays.specs.declared.Shot.{Shot}
-use Rattle.replays.proofs.Good.{Good, accepted-good, size-is}
+use Rattle.requests.proofs.Good.{Good, accepted-good, size-is}
 
 -- ---- a part of the bytes
 
@@ -94,18 +95,21 @@ counted-turn bs at n c h e =
     }
 
 -- the same for the request that the code reads
-module _ (bytes : List ℕ) (count at n : ℕ) (a : Answer) (c : Counted (take count bytes) at n) (within : at ≤ count) (few : n < 80) (read : a ≡ requestAnswer (take (count - at) (drop at bytes)) (placeAt 0)) where
-  answered : requestAnswer (drop at (take count bytes)) (placeAt 0) ≡ a
-  answered = rw (read, part-is at count bytes within)
+module _ (bytes : List ℕ) (count at n : ℕ) (j : Judged) (c : Counted (take count bytes) at n) (within : at ≤ count) (few : n < 80) (read : j ≡ judged (take (count - at) (drop at bytes)) (placeAt 0)) where
+  judged-part : j ≡ judged (drop at (take count bytes)) (placeAt 0)
+  judged-part = read ∙ ap (λ (bs : List ℕ). judged bs (placeAt 0)) (part-is at count bytes within)
 
-  pub count-stops : (x : Refusal) → a ≡ Refused x → n ≡ wholes 80 (take count bytes)
+  answered : requestAnswer (drop at (take count bytes)) (placeAt 0) ≡ j .answer
+  answered = sym (ap (λ (k : Judged). k .answer) judged-part)
+
+  pub count-stops : (x : Refusal) → j .answer ≡ Refused x → n ≡ wholes 80 (take count bytes)
   count-stops x e = counted-stop (take count bytes) at n x c few (answered ∙ e)
 
-  pub count-goes : (k : ℕ) → a ≡ Accepted → k ≡ requestSize (take (count - at) (drop at bytes)) → Counted (take count bytes) (at + k) (n + 1)
-  count-goes k e h = rw (h, part-is at count bytes within) (counted-turn (take count bytes) at n c few (answered ∙ e))
+  pub count-goes : j .answer ≡ Accepted → Counted (take count bytes) (at + j .size) (n + 1)
+  count-goes e = rw (ap (λ (k : Judged). k .size) judged-part) (counted-turn (take count bytes) at n c few (answered ∙ e))
 
-  pub count-within : (k : ℕ) → Counted (take count bytes) (at + k) (n + 1) → at + k ≤ count
-  count-within k d = omega (arith, d .within, length-take count bytes)
+  pub count-within : Counted (take count bytes) (at + j .size) (n + 1) → at + j .size ≤ count
+  count-within d = omega (arith, d .within, length-take count bytes)
 
 -- ---- the code's turns
 
@@ -184,15 +188,3 @@ played-is p w c n at u y moved place full hc hn hu hy ha hm hp =
     let begins : Alike (w .bytes) c (record { reel = record { bytes = w .bytes; count = c; at = 0; text = u }; state = w .state }) (record { state = w .state; left = take c (w .bytes); said = [] }) =
     record { bytes-same = refl; count-same = refl; state-same = refl; left-same = ap (λ (k : ℕ). drop k (take c (w .bytes))) none; said-same = hu ∙ nothing-said } in
     standing-is w c at y (played p n (record { state = w .state; left = take c (w .bytes); said = [] })) moved place full hc (rw hy (shot-played p (w .bytes) c (omega arith) n _ (w .state) _ begins)) ha hm hp ∙ rw (hn, hc)
-
--- ---- the end of the input
-
-pub last-none : (w : Player) (k : ℕ) → k ≡ min (w .count) 160 → k ≡ 0 → Accepted ≡ lastAnswer w
-unfolding lastAnswer
-last-none w k e z = rw (le-leb (length (atHand w)) 0 (omega (arith, length-take (min (w .count) 160) (w .bytes))))
-
-pub last-some : (w : Player) (k : ℕ) (a : Answer) → length (w .bytes) ≡ 160 → k ≡ min (w .count) 160 → (k ≡ 0 → ⊥) → a ≡ requestAnswer (take k (w .bytes)) (placeAt (w .place)) → a ≡ lastAnswer w
-unfolding lastAnswer
-last-some w k a full e some h =
-    let long : 0 < length (atHand w) = omega (arith, length-take (min (w .count) 160) (w .bytes), some) in
-    rw (lt-leb (length (atHand w)) 0 long, h, e)

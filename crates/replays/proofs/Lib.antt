@@ -1,4 +1,3 @@
-pub mod Good
 pub mod Course
 pub mod Parts
 pub mod Settled

@@ -5,7 +5,7 @@ use mathlib.Core.List.{List, [], _∷_, _++_, append-assoc}
 use Prim.Native.Nat.{ℕ, zero, suc, _+_, _-_, _*_, _≤_, _<_, min}
 use native.Mathlib.Nat.{zero-add}
 use native.Mathlib.Omega.{arith}
-use borrow.Author.Tests.{le-ltb, le-leb, lt-leb}
+use borrow.Author.Tests.{le-ltb, lt-leb}
 use lib.Dec.{leb}
 use lib.ListN.{length, getD, take, drop, length-append, length-take, length-drop}
 use lib.Seq.{drop-append-le, ext-getD, getD-take, take-at, drop-at, drop-drop}
@@ -17,13 +17,15 @@ use Rattle.plans.specs.declared.Plan.{Plan}
 use Rattle.rules.specs.declared.State.{State}
 use Rattle.lines.specs.Lines.{totalsText}
 use Rattle.texts.specs.Text.{textOf}
-use Rattle.tasks.specs.Places.{further}
+use Rattle.tasks.specs.Places.{placeAt, further}
+use Rattle.tasks.proofs.Places.{further-is}
 use Rattle.files.specs.Files.{planRead}
-use Rattle.replays.specs.Requests.{requestSize, requestAnswer}
-use Rattle.replays.specs.Replay.{placeAt, closed, ticksText, told, replayText, start, Standing, next, played, wholes, atHand, standing, playedOn}
-use Rattle.replays.specs.declared.Player.{Player}
+use Rattle.requests.specs.Requests.{requestSize, requestAnswer}
+use Rattle.replays.specs.Replay.{closed, ticksText, told, replayText, Standing, next, played, wholes, standing, playedOn}
+use Rattle.players.specs.Players.{start, atHand}
+use Rattle.players.specs.declared.Player.{Player}
 use Rattle.replays.proofs.Course.{wholes-none, wholes-more, wholes-zero}
-use Rattle.replays.proofs.Good.{Good, accepted-good, good-accepted, good-on, finished-on, released-on, size-is, size-on}
+use Rattle.requests.proofs.Good.{Good, accepted-good, good-accepted, good-on, finished-on, released-on, size-is, size-on}
 
 module _ (p : Plan) where
   -- the first request first, or the last one last
@@ -123,10 +125,6 @@ kept-left l h = ext-getD 0 _ l long (λ i b. getD-take (min (length l) 160) _ i 
     long : length (take (min (length l) 160) (padded 160 (length l) 0 (λ i. getD l i 0))) ≡ length l
     long = length-take (min (length l) 160) _ ∙ omega (arith, padded-length 160 0 (length l) (λ i. getD l i 0))
 
-near : (p n : ℕ) → p + n ≤ 18446744073709551615 → further p n ≡ p + n
-unfolding further
-near p n h = rw (le-leb p (18446744073709551615 - n) (omega arith))
-
 -- one part of the input: the player's text is what the input prints next, the player then stands where the input goes on, and no whole request is left at hand
 pub record GoesOn (p : Plan) (w v : Player) (k : ℕ) (more : List ℕ) : Type 0 where
   pub said : List ℕ
@@ -141,7 +139,7 @@ goes-on-from p w k more z e far =
     let few : length (z .left) ≤ length (atHand w) = rw (← e) (shorter p (wholes 80 (atHand w)) begins) in
     let small : length (atHand w) ≤ 160 = omega (arith, length-take (min (w .count) 160) (w .bytes)) in
     let hand : atHand (standing w z) ≡ z .left = kept-left (z .left) (omega arith) in
-    let there : further (w .place) (length (atHand w) - length (z .left)) ≡ w .place + (length (atHand w) - length (z .left)) = near (w .place) _ (omega arith) in
+    let there : further (w .place) (length (atHand w) - length (z .left)) ≡ w .place + (length (atHand w) - length (z .left)) = further-is (w .place) _ (omega arith) in
     record {
       said = z .said;
       text = refl;

@@ -1,14 +1,6 @@
--- Each public contract settles its result.
+-- The public contract settles its result.
 use Rattle.tasks.proofs.Settling.{Settles, settled}
-use Rattle.replays.proofs.start.Reads as start
 use Rattle.replays.proofs.play.Reads as play
-use Rattle.replays.proofs.last.Reads as last
-
-pub start-settled : Settles (start.Post tt)
-start-settled x e r s p q = settled p q
 
 pub play-settled : Settles (play.Post tt)
 play-settled x e r s p q = settled p q
-
-pub last-settled : Settles (last.Post tt)
-last-settled x e r s p q = settled p q

@@ -1,3 +1,2 @@
-pub mod Requests
 pub mod Replay
 pub mod Turns

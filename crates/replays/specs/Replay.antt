@@ -10,7 +10,7 @@ use Rattle.tasks.specs.declared.Answer.the-variants.{Accepted, Refused}
 use Rattle.tasks.specs.declared.Place.{Place}
 use Rattle.tasks.specs.declared.Refusal.the-variants.{CutShort}
 use Rattle.plans.specs.declared.Plan.{Plan}
-use Rattle.tasks.specs.Places.{further}
+use Rattle.tasks.specs.Places.{placeAt, further}
 use Rattle.files.specs.Files.{planRead}
 use Rattle.reading.specs.declared.ReadPlan.{ReadPlan}
 use Rattle.rules.specs.States.{freshState}
@@ -20,11 +20,9 @@ use Rattle.dispatch.specs.declared.Ticked.{Ticked}
 use Rattle.lines.specs.Lines.{tickedText, totalsText}
 use Rattle.telling.specs.Telling.{answerText, refusalText}
 use Rattle.texts.specs.Text.{noText, textOf}
-use Rattle.replays.specs.Requests.{finishedIn, releasedIn, requestSize, requestAnswer}
-use Rattle.replays.specs.declared.Player.{Player}
-
-abbrev pub placeAt : ℕ → Place
-placeAt n = record { 0 = n }
+use Rattle.requests.specs.Requests.{finishedIn, releasedIn, requestSize, requestAnswer}
+use Rattle.players.specs.Players.{atHand}
+use Rattle.players.specs.declared.Player.{Player}
 
 -- the tick that the next bytes ask for
 abbrev pub tickAsked : Plan → State → List ℕ → Ticked
@@ -87,13 +85,6 @@ unfoldable pub wholes : ℕ → List ℕ → ℕ
 wholes zero bs = 0
 wholes (suc k) bs = oneMore (requestAnswer bs (placeAt 0)) (wholes k (drop (requestSize bs) bs))
 
--- the bytes at hand of a player
-abbrev pub atHand : Player → List ℕ
-atHand w = take (min (w .count) 160) (w .bytes)
-
-abbrev pub start : ℕ → Player
-start n = record { state = freshState; bytes = replicate 160 0; count = 0; place = n; text = noText }
-
 -- all whole requests at hand are played, and what is left stands at the beginning
 abbrev pub standing : Player → Standing → Player
 standing w z = record {
@@ -106,7 +97,3 @@ standing w z = record {
 
 unfoldable pub playedOn : Plan → Player → Player
 playedOn p w = standing w (played p (wholes 80 (atHand w)) (record { state = w .state; left = atHand w; said = [] }))
-
--- at the end of the input: nothing is left, or what is left is no whole and good request
-unfoldable pub lastAnswer : Player → Answer
-lastAnswer w = cond (leb (length (atHand w)) 0) Accepted (requestAnswer (atHand w) (placeAt (w .place)))

@@ -9,7 +9,7 @@ use Rattle.board.specs.Kept.{keptFor}
 use Rattle.board.specs.declared.Ran.{Ran}
 use Rattle.lines.specs.Lines.{ranText}
 use Rattle.texts.specs.Text.{puts}
-use Rattle.replays.specs.Requests.{finishedIn, releasedIn, requestSize}
+use Rattle.requests.specs.Requests.{finishedIn, releasedIn, requestSize}
 use Rattle.replays.specs.declared.Reel.{Reel}
 use Rattle.replays.specs.declared.Shot.{Shot}
 

@@ -1,29 +1,19 @@
 // Replays: ticks that come as bytes, one request after another, are made where they are whole, and the lines that they print.
 ghost use mathlib.Core.Path.{_≡_};
-ghost use Prim.Native.Nat.{_+_, _-_, _≤_, _<_, min};
+ghost use Prim.Native.Nat.{_+_, _-_, _≤_, _<_};
 ghost use lib.ListN.{getD, take};
 ghost use Rattle.tasks.specs.Below.{padded};
-ghost use Rattle.replays.specs.Requests.{tasksAt, finishedIn, releasedIn, requestSize, requestAnswer};
-ghost use Rattle.replays.specs.Replay.{wholes, start as begun, playedOn, lastAnswer};
+ghost use Rattle.requests.specs.Requests.{finishedIn, releasedIn};
+ghost use Rattle.replays.specs.Replay.{wholes, playedOn};
 ghost use Rattle.replays.specs.Turns.{handed, shownOf, shotOf, shotAfter};
 use board::Ran;
 use jobs::Tasks;
 use plans::Plan;
+use players::Player;
 use rules::State;
 use tasks::Answer;
 use tasks::Place;
-use tasks::Refusal;
-use tasks::TaskNo;
 use texts::Text;
-
-// A replay under way: the state, the bytes at hand, which are the first `count`, the place of the first of them in the input, and the lines to print.
-pub struct Player {
-    pub state: State,
-    pub bytes: [u8; 160],
-    pub count: usize,
-    pub place: usize,
-    pub text: Text,
-}
 
 // Bytes at hand that are played: the next request begins at `at`, and the lines so far.
 struct Reel {
@@ -39,69 +29,6 @@ struct Shot {
     state: State,
 }
 
-fn smaller(a: usize, b: usize) -> usize
-    ensures { λ r. ⌜ r ≡ min a b ⌝ }
-{
-    if a < b { a } else { b }
-}
-
-// A byte as an index.
-fn wide(x: u8) -> usize
-    ensures { λ r. ⌜ (r ≡ x) × (r < 256) ⌝ }
-{
-    x as usize
-}
-
-// The byte at a place, or 0 past the end.
-fn byte_at(bytes: &[u8], i: usize) -> usize
-    ensures { λ r. ⌜ (r ≡ getD (now (bytes .entry)) i 0) × (r < 256) ⌝ }
-{
-    if i < bytes.len() {
-        return wide(bytes[i]);
-    }
-    0
-}
-
-// How many bytes a request takes.
-fn request_size(bytes: &[u8]) -> usize
-    ensures { λ r. ⌜ (r ≡ requestSize (now (bytes .entry))) × (r < 514) ⌝ }
-{
-    let a = byte_at(bytes, 0);
-    let b = byte_at(bytes, 1 + a);
-    2 + a + b
-}
-
-// The tasks that are counted by the byte at a place, and whose numbers stand after it.
-fn tasks_at(bytes: &[u8], at: usize) -> Tasks
-    requires { ⌜ at < 512 ⌝ }
-    ensures { λ r. ⌜ r ≡ tasksAt (now (bytes .entry)) at ⌝ }
-{
-    let count = byte_at(bytes, at);
-    let end = smaller(count, 64);
-    let mut members = [TaskNo(0); 64];
-    let mut k = 0;
-    while k < end {
-        members[k] = TaskNo(byte_at(bytes, at + 1 + k) as u8);
-        k += 1;
-    }
-    Tasks { members, count }
-}
-
-// Whether a request is whole and good: any bytes at all, the first of which stands at `start` of the input.
-fn request_answer(bytes: &[u8], start: Place) -> Answer
-    ensures { λ r. ⌜ r ≡ requestAnswer (now (bytes .entry)) start ⌝ }
-{
-    let a = byte_at(bytes, 0);
-    let b = byte_at(bytes, 1 + a);
-    if (64 < a) | (64 < b) {
-        return Answer::Refused(Refusal::WrongLength(start));
-    }
-    if bytes.len() < 2 + a + b {
-        return Answer::Refused(Refusal::CutShort(start));
-    }
-    Answer::Accepted
-}
-
 // With how many whole and good requests the bytes at hand begin: each has two bytes at least.
 fn whole_requests(bytes: [u8; 160], count: usize) -> usize
     requires { ⌜ count ≤ 160 ⌝ }
@@ -110,12 +37,12 @@ fn whole_requests(bytes: [u8; 160], count: usize) -> usize
     let mut at = 0;
     let mut n = 0;
     while n < 80 {
-        let part = &bytes[at..count];
-        let answer = request_answer(part, Place(0));
+        let judged = requests::judge(&bytes[at..count], Place(0));
+        let answer = judged.answer;
         if let Answer::Refused(_) = answer {
             return n;
         }
-        at += request_size(part);
+        at += judged.size;
         n += 1;
     }
     n
@@ -126,9 +53,9 @@ fn finishes(reel: Reel, _plan: Plan, _state: State) -> Tasks
     ensures { λ r. ⌜ r ≡ finishedIn (handed reel) ⌝ }
 {
     let bytes = reel.bytes;
-    let end = smaller(reel.count, 160);
-    let begin = smaller(reel.at, end);
-    tasks_at(&bytes[begin..end], 0)
+    let end = tasks::smaller(reel.count, 160);
+    let begin = tasks::smaller(reel.at, end);
+    requests::finished(&bytes[begin..end])
 }
 
 // The tasks that the next request releases.
@@ -136,10 +63,9 @@ fn releases(reel: Reel, _plan: Plan, _state: State) -> Tasks
     ensures { λ r. ⌜ r ≡ releasedIn (handed reel) ⌝ }
 {
     let bytes = reel.bytes;
-    let end = smaller(reel.count, 160);
-    let begin = smaller(reel.at, end);
-    let part = &bytes[begin..end];
-    tasks_at(part, 1 + byte_at(part, 0))
+    let end = tasks::smaller(reel.count, 160);
+    let begin = tasks::smaller(reel.at, end);
+    requests::released(&bytes[begin..end])
 }
 
 // A tick's line is told, and the request after it is next.
@@ -147,9 +73,10 @@ fn show(mut reel: Reel, plan: Plan, ran: Ran, _state: State) -> Reel
     ensures { λ r. ⌜ r ≡ shownOf reel plan ran «_state» ⌝ }
 {
     let bytes = reel.bytes;
-    let end = smaller(reel.count, 160);
-    let begin = smaller(reel.at, end);
-    reel.at = begin + request_size(&bytes[begin..end]);
+    let end = tasks::smaller(reel.count, 160);
+    let begin = tasks::smaller(reel.at, end);
+    let judged = requests::judge(&bytes[begin..end], Place(0));
+    reel.at = begin + judged.size;
     reel.text = lines::ran(reel.text, plan.cores, ran);
     reel
 }
@@ -189,25 +116,12 @@ fn left(bytes: [u8; 160], count: usize, at: usize) -> [u8; 160]
     moved
 }
 
-// A replay that begins at a place of the input.
-pub fn start(place: usize) -> Player
-    ensures { λ r. ⌜ r ≡ begun place ⌝ }
-{
-    Player {
-        state: dispatch::fresh(),
-        bytes: [0u8; 160],
-        count: 0,
-        place,
-        text: Text::empty(),
-    }
-}
-
 // Plays all whole requests at hand: their lines are the text, and what is left stands at the beginning.
 pub fn play(player: Player, plan: Plan) -> Player
     ensures { λ r. ⌜ r ≡ playedOn plan player ⌝ }
 {
     let bytes = player.bytes;
-    let count = smaller(player.count, 160);
+    let count = tasks::smaller(player.count, 160);
     let n = whole_requests(bytes, count);
     let reel = Reel {
         bytes,
@@ -219,7 +133,7 @@ pub fn play(player: Player, plan: Plan) -> Player
     let done = shot.reel;
     let state = shot.state;
     let text = done.text;
-    let at = smaller(done.at, count);
+    let at = tasks::smaller(done.at, count);
     Player {
         state,
         bytes: left(bytes, count, at),
@@ -227,16 +141,4 @@ pub fn play(player: Player, plan: Plan) -> Player
         place: tasks::further(player.place, at),
         text,
     }
-}
-
-// At the end of the input: why what is left is no request, or that nothing is left.
-pub fn last(player: Player) -> Answer
-    ensures { λ r. ⌜ r ≡ lastAnswer player ⌝ }
-{
-    let bytes = player.bytes;
-    let count = smaller(player.count, 160);
-    if count == 0 {
-        return Answer::Accepted;
-    }
-    request_answer(&bytes[..count], Place(player.place))
 }

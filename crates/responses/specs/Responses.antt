@@ -2,9 +2,9 @@
 use mathlib.Core.List.{List, _++_}
 use Prim.Native.Nat.{ℕ, min}
 use lib.ListN.{getD}
+use Rattle.tasks.specs.Below.{row}
 use Rattle.plans.specs.Pieces.{taskOf}
 use Rattle.plans.specs.declared.Plan.{Plan}
-use Rattle.writing.specs.Fields.{row}
 use Rattle.runs.specs.declared.Watched.{Watched}
 use Rattle.lines.specs.Lines.{totalsText}
 use Rattle.texts.specs.Text.{ascii, decimal}

@@ -1,7 +1,7 @@
 // The state and the six rules of a tick.
 ghost use mathlib.Core.Bool.{true, not, _&&_, cond};
 ghost use mathlib.Core.Path.{_≡_};
-ghost use Prim.Native.Nat.{ℕ, _+_, _≤_, _<_, min};
+ghost use Prim.Native.Nat.{ℕ, _+_, _≤_, _<_};
 ghost use lib.Dec.{eqb};
 ghost use Rattle.tasks.specs.Below.{tabulate, padded};
 ghost use Rattle.tasks.specs.declared.Answer.the-variants.{Accepted};
@@ -175,7 +175,7 @@ impl State {
             let after = place + 1;
             let piece = plan.pieces[place];
             let task = piece.task.index();
-            let next = plan.pieces[smaller(after, 127)];
+            let next = plan.pieces[tasks::smaller(after, 127)];
             stands[i] = Stand {
                 active: jobs::phase_no(job) == 1,
                 more: (after < plan.placed) & (task == next.task.index()),
@@ -213,7 +213,7 @@ impl State {
         let mut x = 0;
         while x < cores {
             let task = jobs::runner_no(last[x]);
-            let phase = jobs::phase_no(jobs[smaller(task, 63)]);
+            let phase = jobs::phase_no(jobs[tasks::smaller(task, 63)]);
             let now = jobs::runner_no(self.last[x]);
             count += ((task < 64) & (phase == 1) & (now != task)) as u32;
             x += 1;
@@ -353,7 +353,7 @@ fn choose(plan: Plan, stands: [Stand; 64]) -> [CoreRun; 16]
         let x = stand.piece.core.index();
         let found = runs[x];
         let no = jobs::runner_no(found);
-        runs[x] = better(found, no, stands[smaller(no, 63)], stand, i as u8);
+        runs[x] = better(found, no, stands[tasks::smaller(no, 63)], stand, i as u8);
         i += 1;
     }
     runs
@@ -383,13 +383,6 @@ fn total(base: u32, k: u32) -> u32
     } else {
         4294967295
     }
-}
-
-// The smaller of two counts.
-fn smaller(a: usize, b: usize) -> usize
-    ensures { λ r. ⌜ r ≡ min a b ⌝ }
-{
-    if a < b { a } else { b }
 }
 
 fn no_job() -> Job

@@ -2,12 +2,12 @@
 use mathlib.Core.Path.{_≡_, refl, sym, ap, _∙_}
 use mathlib.Core.List.{List}
 use Prim.Native.Nat.{ℕ, zero, suc}
+use Rattle.tasks.specs.Below.{row}
 use Rattle.plans.specs.declared.Plan.{Plan}
 use Rattle.rules.specs.States.{freshState}
 use Rattle.rules.specs.declared.State.{State}
 use Rattle.board.specs.Kept.{keptFor}
-use Rattle.writing.specs.Fields.{row}
-use Rattle.runs.specs.Allowed.{fullTick, stateAfter}
+use Rattle.runs.specs.FullRate.{fullTick, stateAfter}
 use Rattle.runs.specs.Watching.{noneFinished, allReleased}
 use Rattle.lines.specs.Lines.{tickedText, totalsText}
 use Rattle.running.specs.Running.{runText, withLine, ranFrom}

@@ -5,7 +5,7 @@ use native.Mathlib.Omega.{arith}
 use lib.ListN.{length, length-append}
 use Rattle.plans.specs.declared.Plan.{Plan}
 use Rattle.reading.specs.declared.ReadPlan.{ReadPlan}
-use Rattle.runs.specs.Allowed.{fullTick, stateAfter}
+use Rattle.runs.specs.FullRate.{fullTick, stateAfter}
 use Rattle.texts.specs.Text.{textOf, bytesOf}
 use Rattle.texts.proofs.Whole.{whole, row-few}
 use Rattle.telling.proofs.Whole.{answer-few}

@@ -1,13 +1,13 @@
 -- What the runner prints, byte for byte, and its ticks as a loop that keeps one record.
 use mathlib.Core.List.{List, _++_}
 use Prim.Native.Nat.{ℕ}
+use Rattle.tasks.specs.Below.{row}
 use Rattle.plans.specs.declared.Plan.{Plan}
-use Rattle.writing.specs.Fields.{row}
 use Rattle.reading.specs.declared.ReadPlan.{ReadPlan}
 use Rattle.rules.specs.declared.State.{State}
 use Rattle.board.specs.Kept.{keptFor}
 use Rattle.board.specs.declared.Ran.{Ran}
-use Rattle.runs.specs.Allowed.{fullTick, stateAfter}
+use Rattle.runs.specs.FullRate.{fullTick, stateAfter}
 use Rattle.runs.specs.Watching.{noneFinished, allReleased}
 use Rattle.lines.specs.Lines.{ranText, tickedText, totalsText}
 use Rattle.telling.specs.Telling.{answerText}

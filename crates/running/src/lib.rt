@@ -1,6 +1,6 @@
 // What the runner prints: its ticks, line by line, and their totals.
 ghost use mathlib.Core.Path.{_≡_};
-ghost use Rattle.runs.specs.Allowed.{noTasks, allowedSet};
+ghost use Rattle.allowed.specs.Allowed.{noTasks, allowedSet};
 ghost use Rattle.texts.specs.Text.{textOf};
 ghost use Rattle.running.specs.Running.{withLine, ranFrom, runnerProgramText};
 use board::Ran;
@@ -26,7 +26,7 @@ fn none_finished(_text: Text, _plan: Plan, _state: State) -> Tasks
 fn all_released(_text: Text, plan: Plan, state: State) -> Tasks
     ensures { λ r. ⌜ r ≡ allowedSet plan state ⌝ }
 {
-    runs::all_allowed(plan, state)
+    allowed::all_allowed(plan, state)
 }
 
 // A tick's line more.

@@ -1,3 +1,3 @@
-pub mod Allowed
+pub mod FullRate
 pub mod Watched
 pub mod Watching

@@ -10,7 +10,7 @@ use Rattle.rules.specs.States.{jobOf, freshState}
 use Rattle.jobs.specs.declared.CoreRun.{CoreRun}
 use Rattle.rules.specs.declared.State.{State}
 use Rattle.dispatch.specs.declared.Ticked.{Ticked}
-use Rattle.runs.specs.Allowed.{fullTick}
+use Rattle.runs.specs.FullRate.{fullTick}
 use Rattle.runs.specs.declared.Watched.{Watched}
 
 -- did task i run on one of the m cores?

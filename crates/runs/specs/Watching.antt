@@ -7,7 +7,7 @@ use Rattle.rules.specs.declared.State.{State}
 use Rattle.jobs.specs.declared.Tasks.{Tasks}
 use Rattle.board.specs.Kept.{keptFor}
 use Rattle.board.specs.declared.Ran.{Ran}
-use Rattle.runs.specs.Allowed.{noTasks, allowedSet}
+use Rattle.allowed.specs.Allowed.{noTasks, allowedSet}
 use Rattle.runs.specs.Watched.{seen}
 use Rattle.runs.specs.declared.Seen.{Seen}
 use Rattle.runs.specs.declared.Watched.{Watched}

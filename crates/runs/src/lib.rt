@@ -1,21 +1,18 @@
 // Runs: ticks in which every task is released as soon as allowed, and what is seen in them.
 ghost use mathlib.Core.Path.{_≡_};
-ghost use mathlib.Core.Bool.{true, false, cond};
-ghost use Prim.Native.Nat.{_<_, min, max};
-ghost use lib.Dec.{eqb};
-ghost use Rattle.jobs.specs.Jobs.{byPhase, names};
-ghost use Rattle.runs.specs.Allowed.{noTasks, withTask, allowedSet};
+ghost use mathlib.Core.Bool.{cond};
+ghost use Prim.Native.Nat.{max};
+ghost use Rattle.jobs.specs.Jobs.{names};
+ghost use Rattle.allowed.specs.Allowed.{noTasks, allowedSet};
 ghost use Rattle.runs.specs.Watched.{ranIn, watched};
 ghost use Rattle.runs.specs.Watching.{saw, watchedAt, watchedFrom};
 use board::Ran;
 use jobs::CoreRun;
 use jobs::Job;
-use jobs::Phase;
 use jobs::Runner;
 use jobs::Tasks;
 use plans::Plan;
 use rules::State;
-use tasks::Task;
 use tasks::TaskNo;
 
 // The state after a run, and the longest response that was seen of each task.
@@ -27,62 +24,6 @@ pub struct Watched {
 // The longest response seen of each task so far.
 struct Seen {
     longest: [u32; 64],
-}
-
-fn smaller(a: usize, b: usize) -> usize
-    ensures { λ r. ⌜ r ≡ min a b ⌝ }
-{
-    if a < b { a } else { b }
-}
-
-fn no_tasks() -> Tasks
-    ensures { λ r. ⌜ r ≡ noTasks ⌝ }
-{
-    Tasks {
-        members: [TaskNo(0); 64],
-        count: 0,
-    }
-}
-
-// Rule 3: ended or never released, and in the first case of age p.
-fn may_be_released(task: Task, job: Job) -> bool
-    ensures { λ r. ⌜ r ≡ byPhase (job .phase) true false (eqb (job .age) (task .period)) ⌝ }
-{
-    let phase = job.phase;
-    match phase {
-        Phase::Never => true,
-        Phase::Active => false,
-        Phase::Ended => job.age == task.period,
-    }
-}
-
-// A set, with task i if it joins.
-fn joined(set: Tasks, i: usize, joins: bool) -> Tasks
-    requires { ⌜ (set .count < 64) × (i < 256) ⌝ }
-    ensures { λ r. ⌜ r ≡ cond joins (withTask set i) set ⌝ }
-{
-    if joins {
-        let n = set.count;
-        let mut more = set;
-        more.members[n] = TaskNo(i as u8);
-        more.count = n + 1;
-        return more;
-    }
-    set
-}
-
-// Every task that may be released in the next tick.
-pub fn all_allowed(plan: Plan, state: State) -> Tasks
-    ensures { λ r. ⌜ r ≡ allowedSet plan state ⌝ }
-{
-    let count = smaller(plan.count, 64);
-    let mut set = no_tasks();
-    let mut i = 0;
-    while i < count {
-        set = joined(set, i, may_be_released(plan.tasks[i], state.jobs[i]));
-        i += 1;
-    }
-    set
 }
 
 // Is it this task that runs?
@@ -100,7 +41,7 @@ fn runs_here(i: usize, run: CoreRun) -> bool
 fn ran_in(cores: usize, runs: [CoreRun; 16], i: usize) -> bool
     ensures { λ r. ⌜ r ≡ ranIn cores runs i ⌝ }
 {
-    let most = smaller(cores, 16);
+    let most = tasks::smaller(cores, 16);
     let mut ran = false;
     let mut x = 0;
     while x < most {
@@ -125,14 +66,17 @@ fn longer(longest: u32, ran: bool, job: Job) -> u32
 fn none_finished(_seen: Seen, _plan: Plan, _state: State) -> Tasks
     ensures { λ r. ⌜ r ≡ noTasks ⌝ }
 {
-    no_tasks()
+    Tasks {
+        members: [TaskNo(0); 64],
+        count: 0,
+    }
 }
 
 // Every task is released that may be.
 fn all_released(_seen: Seen, plan: Plan, state: State) -> Tasks
     ensures { λ r. ⌜ r ≡ allowedSet plan state ⌝ }
 {
-    all_allowed(plan, state)
+    allowed::all_allowed(plan, state)
 }
 
 // What is seen in a tick.
@@ -140,7 +84,7 @@ fn see(seen: Seen, plan: Plan, ran: Ran, state: State) -> Seen
     ensures { λ r. ⌜ r ≡ saw seen plan ran state ⌝ }
 {
     let runs = ran.runs;
-    let count = smaller(plan.count, 64);
+    let count = tasks::smaller(plan.count, 64);
     let mut longest = [0u32; 64];
     let mut i = 0;
     while i < count {

@@ -43,7 +43,7 @@ pub fn judge_sets(plan: Plan, state: State, finished: Tasks, released: Tasks) ->
 fn lowest_wrong(tasks: Tasks, wrong: [bool; 257]) -> usize
     ensures { λ r. ⌜ r ≡ first 256 (λ t. member tasks t && getD wrong t false) ⌝ }
 {
-    let count = smaller(tasks.count, 64);
+    let count = tasks::smaller(tasks.count, 64);
     let mut low = 256;
     let mut k = 0;
     while k < count {
@@ -59,14 +59,18 @@ fn lowest_wrong(tasks: Tasks, wrong: [bool; 257]) -> usize
 fn lower(low: usize, task: usize, wrong: bool) -> usize
     ensures { λ r. ⌜ r ≡ cond wrong (min low task) low ⌝ }
 {
-    if wrong { smaller(low, task) } else { low }
+    if wrong {
+        tasks::smaller(low, task)
+    } else {
+        low
+    }
 }
 
 // Refusal 10 for each task.
 fn not_run(count: usize, cores: usize, last: [CoreRun; 16]) -> [bool; 257]
     ensures { λ r. ⌜ ((p : Plan) (s : State) → p .count ≡ count → p .cores ≡ cores → s .last ≡ last → (t : ℕ) → t < 256 → getD r t false ≡ notRun p s t) ⌝ }
 {
-    let known = smaller(cores, 16);
+    let known = tasks::smaller(cores, 16);
     let mut wrong = [true; 257];
     let mut x = 0;
     while x < known {
@@ -81,11 +85,11 @@ fn not_run(count: usize, cores: usize, last: [CoreRun; 16]) -> [bool; 257]
 fn too_soon(count: usize, tasks: [Task; 64], jobs: [Job; 64]) -> [bool; 257]
     ensures { λ r. ⌜ ((p : Plan) (s : State) (fs : Tasks) → p .count ≡ count → p .tasks ≡ tasks → s .jobs ≡ jobs → (t : ℕ) → t < 256 → getD r t false ≡ tooSoon p (finish p fs s) t) ⌝ }
 {
-    let known = smaller(count, 256);
+    let known = tasks::smaller(count, 256);
     let mut wrong = [true; 257];
     let mut t = 0;
     while t < known {
-        let i = smaller(t, 63);
+        let i = tasks::smaller(t, 63);
         let job = jobs[i];
         wrong[t] = (t < 64) & (0 < jobs::phase_no(job)) & (job.age < tasks[i].period);
         t += 1;
@@ -97,7 +101,7 @@ fn too_soon(count: usize, tasks: [Task; 64], jobs: [Job; 64]) -> [bool; 257]
 fn still_active(count: usize, tasks: [Task; 64], jobs: [Job; 64], finished: Tasks) -> [bool; 257]
     ensures { λ r. ⌜ ((p : Plan) (s : State) → p .count ≡ count → p .tasks ≡ tasks → s .jobs ≡ jobs → (t : ℕ) → t < 256 → getD r t false ≡ stillActive p (finish p finished s) t) ⌝ }
 {
-    let known = smaller(count, 64);
+    let known = tasks::smaller(count, 64);
     let ended = jobs::marks(finished);
     let mut wrong = [false; 257];
     let mut t = 0;
@@ -107,11 +111,4 @@ fn still_active(count: usize, tasks: [Task; 64], jobs: [Job; 64], finished: Task
         t += 1;
     }
     wrong
-}
-
-// The smaller of two counts.
-fn smaller(a: usize, b: usize) -> usize
-    ensures { λ r. ⌜ r ≡ min a b ⌝ }
-{
-    if a < b { a } else { b }
 }

@@ -1,7 +1,7 @@
 // The plan shape, and the check of a plan record.
 ghost use mathlib.Core.Path.{_≡_};
 ghost use mathlib.Core.Bool.{_&&_, cond};
-ghost use Prim.Native.Nat.{ℕ, _-_, _≤_, _<_, min};
+ghost use Prim.Native.Nat.{ℕ, _-_, _≤_, _<_};
 ghost use lib.Dec.{leb, ltb};
 ghost use Rattle.plans.specs.Pieces.{taskOf, pieceOf};
 ghost use Rattle.shapes.specs.Shape as shaped;
@@ -48,12 +48,6 @@ fn kept(keep: bool, x: u64) -> u64
     if keep { x } else { 0 }
 }
 
-fn smaller(a: usize, b: usize) -> usize
-    ensures { λ r. ⌜ r ≡ min a b ⌝ }
-{
-    if a < b { a } else { b }
-}
-
 // Has piece z a task below `count`, a core below `cores` and a cost, and is it in order at place j, right after `before`?
 fn in_place(cores: usize, count: usize, j: usize, before: Piece, z: Piece) -> bool
     ensures { λ r. ⌜ ((pc : ℕ → Piece) → pc (j - 1) ≡ before → pc j ≡ z → r ≡ ltb (z .task .0) count && ltb (z .core .0) cores && leb 1 (z .cost) && inOrder pc j) ⌝ }
@@ -75,8 +69,8 @@ fn pieces_fit(plan: Plan) -> bool
     while j < n {
         let z = plan.pieces[j];
         let i = z.task.index();
-        let cost = plan.tasks[smaller(i, 63)].cost;
-        let next = plan.pieces[smaller(j + 1, 127)];
+        let cost = plan.tasks[tasks::smaller(i, 63)].cost;
+        let next = plan.pieces[tasks::smaller(j + 1, 127)];
         let more = (j + 1 < n) & (i == next.task.index());
         spent = kept((0 < j) & (before.task.index() == i), spent) + wide(z.cost);
         if !(in_place(plan.cores, plan.count, j, before, z) & (more | (spent == wide(cost)))) {

@@ -2,6 +2,7 @@ pub mod Bools
 pub mod Below
 pub mod Padded
 pub mod Tables
+pub mod Places
 pub mod Tabulate
 pub mod Counting
 pub mod Settling

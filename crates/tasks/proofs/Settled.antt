@@ -2,6 +2,7 @@
 use Rattle.tasks.proofs.Settling.{Settles, settled}
 use Rattle.tasks.proofs.TaskNo.index.Reads as task-index
 use Rattle.tasks.proofs.CoreNo.index.Reads as core-index
+use Rattle.tasks.proofs.smaller.Reads as smaller
 use Rattle.tasks.proofs.further.Reads as further
 use Rattle.tasks.proofs.values_fit.Reads as values-fit
 
@@ -10,6 +11,9 @@ task-index-settled x e r s p q = settled (p .0) (q .0)
 
 pub core-index-settled : Settles (core-index.Post tt)
 core-index-settled x e r s p q = settled (p .0) (q .0)
+
+pub smaller-settled : Settles (smaller.Post tt)
+smaller-settled x e r s p q = settled p q
 
 pub further-settled : Settles (further.Post tt)
 further-settled x e r s p q = settled p q

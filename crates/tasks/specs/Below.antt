@@ -1,6 +1,6 @@
--- The numbers below n: whether all of them pass a test, whether any does, which is the first, what they add up to, and their list.
+-- The numbers below n: whether all of them pass a test, whether any does, which is the first, what they add up to, and the lists they make.
 use mathlib.Core.Bool.{Bool, true, false, _&&_, _||_, cond}
-use mathlib.Core.List.{List, [], _∷_}
+use mathlib.Core.List.{List, [], _∷_, _++_}
 use Prim.Native.Nat.{ℕ, zero, suc, _+_}
 use lib.Dec.{ltb}
 
@@ -33,3 +33,8 @@ tabulate (suc n) f = f 0 ∷ tabulate n (λ k. f (suc k))
 -- a record's list of `size` entries, of which the first n are f 0, f 1, and so on, and the others `empty`
 unfoldable pub padded : {A : Type 0} → ℕ → ℕ → A → (ℕ → A) → List A
 padded size n empty f = tabulate size (λ k. cond (ltb k n) (f k) empty)
+
+-- the lists f 0, f 1, and so on below n, one behind the other
+unfoldable pub row : {A : Type 0} → ℕ → (ℕ → List A) → List A
+row zero f = []
+row (suc n) f = row n f ++ f n

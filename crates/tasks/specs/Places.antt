@@ -2,6 +2,10 @@
 use mathlib.Core.Bool.{cond}
 use Prim.Native.Nat.{ℕ, _+_, _-_}
 use lib.Dec.{leb}
+use Rattle.tasks.specs.declared.Place.{Place}
+
+abbrev pub placeAt : ℕ → Place
+placeAt n = record { 0 = n }
 
 -- the place n bytes further on; places stop at the largest number that a machine word holds
 unfoldable pub further : ℕ → ℕ → ℕ

@@ -1,6 +1,6 @@
 // The vocabulary of task tables: numbers of tasks and cores, tasks, tables, and every way to say no.
 ghost use mathlib.Core.Path.{_≡_};
-ghost use Prim.Native.Nat.{_<_};
+ghost use Prim.Native.Nat.{_<_, min};
 ghost use Rattle.tasks.specs.Places.{further};
 ghost use Rattle.tasks.specs.Tables.{valuesFit};
 
@@ -70,6 +70,13 @@ impl CoreNo {
         let core = self.0;
         core as usize
     }
+}
+
+// The smaller of two counts.
+pub fn smaller(a: usize, b: usize) -> usize
+    ensures { λ r. ⌜ r ≡ min a b ⌝ }
+{
+    if a < b { a } else { b }
 }
 
 // The place `n` bytes further on, as far as a number tells.

@@ -7,7 +7,7 @@ use native.Mathlib.Omega.{arith}
 use lib.ListN.{length, getD, drop, drop-of-length-le}
 use lib.Seq.{drop-cons}
 use borrow.Author.Tests.{lt-ltb, le-ltb}
-use Rattle.writing.specs.Fields.{row}
+use Rattle.tasks.specs.Below.{row}
 use Rattle.texts.specs.Text.{put, puts, digits}
 use Rattle.texts.specs.declared.Text.{Text}
 

@@ -10,7 +10,7 @@ use lib.Dec.{ltb}
 use lib.ListN.{length, length-append, length-set, length-replicate}
 use lib.Seq.{take-suc-set}
 use borrow.Author.Tests.{lt-ltb}
-use Rattle.writing.specs.Fields.{row}
+use Rattle.tasks.specs.Below.{row}
 use Rattle.texts.specs.Text.{put, puts, textOf, bytesOf, noText, digits}
 use Rattle.texts.specs.declared.Text.{Text}
 

@@ -11,21 +11,22 @@ use lib.Dec.{eqb}
 use lib.ListN.{length, getD, set, take, replicate, length-append, length-set, length-replicate, getD-replicate, List·getD-eq-default}
 use lib.Seq.{length-take-le, take-suc-set, getD-set-same, getD-set-other}
 use borrow.Author.Tests.{eq-eqb}
+use Rattle.tasks.specs.Below.{row}
 use Rattle.tasks.proofs.Bools.{clash}
 use Rattle.tasks.specs.Tables.{noTask, coresFit, valuesFit}
 use Rattle.tasks.specs.declared.Task.{Task}
 use Rattle.plans.specs.Pieces.{noPiece, taskOf, pieceOf, CleanPlan}
 use Rattle.plans.specs.declared.Piece.{Piece}
 use Rattle.plans.specs.declared.Plan.{Plan}
-use Rattle.writing.specs.Fields.{coreField, taskField, pieceField, row}
+use Rattle.writing.specs.Fields.{coreField, taskField, pieceField}
 use Rattle.tasks.specs.Places.{further}
+use Rattle.tasks.proofs.Places.{further-is}
 use Rattle.fields.specs.Fields.{tag, lengthFor, taskIn, pieceIn, verdict, hold, fieldAt, pieceTaken, nextField, withCores, withTask, withPiece, added, settled, step, read}
 use Rattle.fields.specs.declared.Field.{Field}
 use Rattle.fields.specs.declared.Reader.{Reader}
 use Rattle.fields.proofs.Fields.{reader, next-other, cores-added, task-added, read-refused, step-good, settled-bad, good-room}
 use Rattle.trips.proofs.Taken.{piece-room, piece-kind, Found, good-found, waits-short, tag-cases, cores-good, values-good, core-text, task-text, piece-text}
 use Rattle.trips.proofs.ReadBack.{hold-is, length-most}
-use Rattle.trips.proofs.RoundTrip.{further-is}
 
 -- the fields of what was read: the core count if it was named, the tasks, the pieces
 unfoldable pub told : Bool → Plan → List ℕ

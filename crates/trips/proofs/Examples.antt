@@ -3,12 +3,13 @@ use mathlib.Core.Path.{_≡_, refl}
 use mathlib.Core.List.{List, [], _∷_, _++_}
 use Prim.Native.Nat.{ℕ}
 use lib.ListN.{replicate}
+use Rattle.tasks.specs.Below.{row}
 use Rattle.tasks.specs.Tables.{noTask}
 use Rattle.tasks.specs.declared.Answer.the-variants.{Accepted, Refused}
 use Rattle.tasks.specs.declared.Place.{Place}
 use Rattle.tasks.specs.declared.Refusal.the-variants.{CutShort, WrongTag, WrongLength, CoresAt, ValuesAt, TasksAt}
 use Rattle.tasks.specs.declared.Table.{Table}
-use Rattle.writing.specs.Fields.{tableBytes, tasksBytes, coreField, taskField, row}
+use Rattle.writing.specs.Fields.{tableBytes, tasksBytes, coreField, taskField}
 use Rattle.tasks.specs.Places.{further}
 use Rattle.fields.specs.Fields.{read, step, verdict, hold, tagFits, values, nextField, added}
 use Rattle.reading.specs.Reading.{refusal, ended, tableClosed}

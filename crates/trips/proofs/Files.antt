@@ -9,6 +9,7 @@ use lib.Arith.{le-zero}
 use lib.Dec.{ltb, eqb}
 use lib.ListN.{length, getD, take}
 use borrow.Author.Tests.{ltb-false, eqb-false, eq-eqb, ne-eqb, le-leb}
+use Rattle.tasks.specs.Below.{row}
 use Rattle.tasks.proofs.Bools.{both-make}
 use Rattle.tasks.proofs.Tables.{all-good}
 use Rattle.tasks.specs.Refusals.{number}
@@ -20,7 +21,7 @@ use Rattle.tasks.specs.declared.Table.{Table}
 use Rattle.plans.specs.Pieces.{noPiece, taskOf, pieceOf}
 use Rattle.shapes.specs.Shape.{checkedPlan, shape}
 use Rattle.plans.specs.declared.Plan.{Plan}
-use Rattle.writing.specs.Fields.{coreField, taskField, row, tasksBytes, tableBytes, planBytes}
+use Rattle.writing.specs.Fields.{coreField, taskField, tasksBytes, tableBytes, planBytes}
 use Rattle.fields.specs.Fields.{fieldAt, refusedField, read}
 use Rattle.reading.specs.Reading.{defaultCores, begun, emptyPlan, refusal, movedTo, ended, fieldsAnswer, endedAfter, planEnded, tableAnswered, planAnswered, tableClosed, planClosed}
 use Rattle.files.specs.Files.{tableRead, planRead}

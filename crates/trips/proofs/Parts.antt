@@ -9,6 +9,7 @@ use lib.ListN.{length, getD, drop, length-drop}
 use lib.Seq.{take-all}
 use borrow.Author.Tests.{le-leb}
 use denote.Ref.{RefT, now}
+use Rattle.tasks.specs.Below.{row}
 use Rattle.tasks.proofs.Bools.{not-second}
 use Rattle.tasks.proofs.Tables.{accepted-good}
 use Rattle.tasks.specs.Tables.{taskOf}
@@ -16,7 +17,7 @@ use Rattle.tasks.specs.declared.Answer.{Answer}
 use Rattle.tasks.specs.declared.Answer.the-variants.{Accepted, Refused}
 use Rattle.tasks.specs.declared.Refusal.{Refusal}
 use Rattle.tasks.specs.declared.Table.{Table}
-use Rattle.writing.specs.Fields.{coreField, taskField, row, tasksBytes, tableBytes}
+use Rattle.writing.specs.Fields.{coreField, taskField, tasksBytes, tableBytes}
 use Rattle.force.specs.InForce.{firstTask, TaskFields, IsInForce, choice, inForce}
 use Rattle.reading.specs.Reading.{defaultCores}
 use Rattle.files.specs.Files.{tableRead}

@@ -2,14 +2,14 @@
 use mathlib.Core.Path.{_≡_, refl, sym, ap, _∙_}
 use mathlib.Core.Bool.{Bool, true, false}
 use mathlib.Core.List.{List}
-use Prim.Native.Nat.{ℕ, zero, suc, _+_, _*_, _-_, _≤_, _<_}
+use Prim.Native.Nat.{ℕ, zero, suc, _+_, _*_, _≤_, _<_}
 use native.Mathlib.Numerals.{add-one}
 use native.Mathlib.Omega.{arith}
 use lib.ListN.{length}
-use borrow.Author.Tests.{le-leb, leb-true, ne-eqb}
+use borrow.Author.Tests.{leb-true, ne-eqb}
 use Rattle.tasks.proofs.Padded.{padded-in, padded-is, padded-more}
 use Rattle.tasks.proofs.Tables.{GoodTable, accepted-good}
-use Rattle.tasks.specs.Below.{padded, tabulate}
+use Rattle.tasks.specs.Below.{padded, tabulate, row}
 use Rattle.tasks.specs.Tables.{noTask, coresFit, valuesFit, checkedTable, SameTable, CleanTable, taskOf as taskOfTable}
 use Rattle.tasks.specs.declared.Answer.the-variants.{Accepted}
 use Rattle.tasks.specs.declared.Task.{Task}
@@ -19,8 +19,9 @@ use Rattle.shapes.proofs.InShape.{GoodPlan, accepted-plan, tests}
 use Rattle.shapes.specs.Shape.{checkedPlan}
 use Rattle.plans.specs.declared.Piece.{Piece}
 use Rattle.plans.specs.declared.Plan.{Plan}
-use Rattle.writing.specs.Fields.{coreField, taskField, pieceField, row, tasksBytes, tableBytes, planBytes}
+use Rattle.writing.specs.Fields.{coreField, taskField, pieceField, tasksBytes, tableBytes, planBytes}
 use Rattle.tasks.specs.Places.{further}
+use Rattle.tasks.proofs.Places.{further-is}
 use Rattle.fields.specs.Fields.{fieldAt, read}
 use Rattle.reading.specs.Reading.{begun, emptyPlan, ended, tableClosed, planEnded, planClosed}
 use Rattle.files.specs.Files.{tableRead, planRead}
@@ -31,10 +32,6 @@ use Rattle.trips.proofs.Same.{shape-same, tasks-same, costs-fit}
 use Rattle.trips.proofs.ReadBack.{read-cores, read-task, read-piece}
 use Rattle.fields.proofs.Fields.{reader}
 use Rattle.trips.proofs.InParts.{read-parts}
-
-pub further-is : (p n : ℕ) → p + n ≤ 18446744073709551615 → further p n ≡ p + n
-unfolding further
-further-is p n h = rw (le-leb p (18446744073709551615 - n) (omega arith))
 
 -- the record with these entries, and 0 past its counts
 abbrev pub planOf : ℕ → ℕ → (ℕ → Task) → ℕ → (ℕ → Piece) → Plan

@@ -9,6 +9,7 @@ use lib.ListN.{length, take, drop, length-append, length-drop, drop-of-length-le
 use lib.Seq.{take-at, drop-at, drop-drop, take-all, sets, sets-eq, length-take-le}
 use borrow.Rule.Slice.PartMut.{putMid}
 use borrow.Author.Tests.{le-leb, lt-leb, leb-true}
+use Rattle.tasks.specs.Below.{row}
 use Rattle.tasks.proofs.Tables.{GoodTable, accepted-good}
 use Rattle.tasks.specs.Tables.{checkedTable}
 use Rattle.tasks.specs.Tables.{taskOf as taskOfTable}
@@ -23,7 +24,7 @@ use Rattle.plans.specs.Pieces.{taskOf, pieceOf}
 use Rattle.shapes.specs.Shape.{checkedPlan}
 use Rattle.plans.specs.declared.Piece.{Piece}
 use Rattle.plans.specs.declared.Plan.{Plan}
-use Rattle.writing.specs.Fields.{coreField, taskField, pieceField, row, tasksBytes, tableBytes, planBytes}
+use Rattle.writing.specs.Fields.{coreField, taskField, pieceField, tasksBytes, tableBytes, planBytes}
 use Rattle.writing.specs.Writing.{after, answered, filled}
 use Rattle.writing.specs.declared.Written.the-variants as written
 

@@ -1,6 +1,7 @@
 -- Files are fields in a row: tag (one byte), length (two bytes), body. All numbers are high byte first.
 use mathlib.Core.List.{List, [], _∷_, _++_}
-use Prim.Native.Nat.{ℕ, zero, suc, _/_, _%_}
+use Prim.Native.Nat.{ℕ, _/_, _%_}
+use Rattle.tasks.specs.Below.{row}
 use Rattle.tasks.specs.Tables.{taskOf as taskOfTable}
 use Rattle.tasks.specs.declared.Task.{Task}
 use Rattle.tasks.specs.declared.Table.{Table}
@@ -30,11 +31,6 @@ taskField t = 2 ∷ 0 ∷ 12 ∷ (bytes4 (t .cost) ++ (bytes4 (t .deadline) ++ b
 -- tag 3, length 7: a piece; task, core, kind, cost of four bytes
 unfoldable pub pieceField : Piece → List ℕ
 pieceField z = 3 ∷ 0 ∷ 7 ∷ z .task .0 ∷ z .core .0 ∷ kindByte (z .kind) ∷ bytes4 (z .cost)
-
--- n fields in a row
-unfoldable pub row : ℕ → (ℕ → List ℕ) → List ℕ
-row zero f = []
-row (suc n) f = row n f ++ f n
 
 -- the core count and n tasks
 unfoldable pub tasksBytes : ℕ → ℕ → (ℕ → Task) → List ℕ

@@ -2,14 +2,6 @@ use borrow.Author.Needs.{needs}
 use Prim.Native.Nat.{_≤_, _-_}
 use Rattle.bench_ours.proofs.bench_ours_ticks.Statement.{statement}
 use Rattle.bench_ours.proofs.bench_ours_ticks.Tie as tie
-use Rattle.bench_ours.proofs.bench_ours_ticks.Reads as reads
-use Rattle.bench_ours.proofs.bench_ours_ticks.Lts as lts
-use Rattle.bench_ours.proofs.mix.Reads as mix-reads
-use Rattle.bench_ours.proofs.of_runs.Reads as of-runs-reads
-use Rattle.dispatch.proofs.fresh.Reads as fresh-reads
-use Rattle.dispatch.proofs.tick.Reads as tick-reads
-use Rattle.files.proofs.read_plan.Reads as read-plan-reads
-use Rattle.runs.proofs.all_allowed.Reads as all-allowed-reads
 
 abbrev Inv-loop : tie.InvT-loop
 Inv-loop plan count plan' none state₀ sum₀ counter₀ state sum counter = counter ≤ count

@@ -2,10 +2,6 @@ use borrow.Author.Needs.{needs}
 use Prim.Native.Nat.{_≤_, _-_}
 use Rattle.bench_ours.proofs.of_runs.Statement.{statement}
 use Rattle.bench_ours.proofs.of_runs.Tie as tie
-use Rattle.bench_ours.proofs.of_runs.Reads as reads
-use Rattle.bench_ours.proofs.of_runs.Lts as lts
-use Rattle.bench_ours.proofs.mix.Reads as mix-reads
-use Rattle.bench_ours.proofs.of_run.Reads as of-run-reads
 
 abbrev Inv-loop : tie.InvT-loop
 Inv-loop sum cores runs all₀ x₀ all x = x ≤ 16

@@ -2,11 +2,6 @@ use borrow.Author.Needs.{needs}
 use Prim.Native.Nat.{_-_, _≤_}
 use Rattle.cases.proofs.fed.Statement.{statement}
 use Rattle.cases.proofs.fed.Tie as tie
-use Rattle.cases.proofs.fed.Reads as reads
-use Rattle.cases.proofs.fed.Lts as lts
-use Rattle.reading.proofs.close_table.Reads as close-table-reads
-use Rattle.fields.proofs.feed.Reads as feed-reads
-use Rattle.reading.proofs.start_table.Reads as start-table-reads
 
 abbrev Inv-loop : tie.InvT-loop
 Inv-loop count reader₀ i₀ t4 reader i = (i ≤ count)

@@ -3,11 +3,6 @@ use lib.ListN.{length}
 use Prim.Native.Nat.{_-_, _≤_}
 use Rattle.cases.proofs.say_bytes.Statement.{statement}
 use Rattle.cases.proofs.say_bytes.Tie as tie
-use Rattle.cases.proofs.say_bytes.Reads as reads
-use Rattle.cases.proofs.say_bytes.Lts as lts
-use Rattle.cases.proofs.say.Reads as say-reads
-use Rattle.cases.proofs.wide.Reads as wide-reads
-use Rattle.io.proofs.print_hex.Reads as print-hex-reads
 
 abbrev Inv-loop : tie.InvT-loop
 Inv-loop bytes i₀ t3 t4 i = (i ≤ length bytes)

@@ -1,9 +1,6 @@
 use borrow.Author.Needs.{needs}
 use Rattle.console.proofs.feed_all.Statement.{statement}
 use Rattle.console.proofs.feed_all.Tie as tie
-use Rattle.console.proofs.feed_all.Reads as reads
-use Rattle.console.proofs.feed_all.Lts as lts
-use Rattle.console.proofs.feed_some.Reads as feed-some-reads
 
 abbrev Inv-loop : tie.InvT-loop
 Inv-loop fed₀ turns₀ fed turns = Unit {0}

@@ -5,9 +5,6 @@ use Rattle.files.specs.Files.{planRead}
 use borrow.Author.Needs.{needs}
 use Rattle.console.proofs.plan_in.Statement.{statement}
 use Rattle.console.proofs.plan_in.Tie as tie
-use Rattle.console.proofs.plan_in.Reads as reads
-use Rattle.console.proofs.plan_in.Lts as lts
-use Rattle.files.proofs.read_plan.Reads as read-plan-reads
 
 read-plan-requires : tie.Need-read-plan-requires
 read-plan-requires c κs = search needs

@@ -5,9 +5,6 @@ use mathlib.Core.Path.{_≡_, sym}
 use borrow.Author.Needs.{needs}
 use Rattle.console.proofs.print.Statement.{statement}
 use Rattle.console.proofs.print.Tie as tie
-use Rattle.console.proofs.print.Reads as reads
-use Rattle.console.proofs.print.Lts as lts
-use Rattle.io.proofs.write_all.Reads as write-all-reads
 
 array-share-prefix-bytes : tie.Need-array-share-prefix-bytes
 array-share-prefix-bytes c = let l : length (c .before .before .args .text .bytes) ≡ 9216 = simp length-map at (c .before .before .good .0 .1 .1 .0 .1 .0 .1) in omega arith

@@ -5,10 +5,6 @@ use Rattle.lending.specs.Adding.{pressureOn, added}
 use borrow.Author.Needs.{needs}
 use Rattle.lending.proofs.add.Statement.{statement}
 use Rattle.lending.proofs.add.Tie as tie
-use Rattle.lending.proofs.add.Reads as reads
-use Rattle.lending.proofs.add.Lts as lts
-use Rattle.bounds.proofs.pressure.Reads as pressure-reads
-use Rattle.tasks.proofs.TaskNo.index.Reads as index-reads
 
 -- what is added is the interference of the piece
 pressed : (c : tie.After-pressure) → let a = c .before .before .before .before .before .args in c .pressure .result ≡ pressureOn (a .t1) (a .piece)

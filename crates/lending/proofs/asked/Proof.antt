@@ -3,9 +3,6 @@ use Rattle.lending.proofs.Begun.{asked-refused, asked-inside, asked-pas
 use borrow.Author.Needs.{needs}
 use Rattle.lending.proofs.asked.Statement.{statement}
 use Rattle.lending.proofs.asked.Tie as tie
-use Rattle.lending.proofs.asked.Reads as reads
-use Rattle.lending.proofs.asked.Lts as lts
-use Rattle.shapes.proofs.check_plan.Reads as check-plan-reads
 
 check-plan-requires : tie.Need-check-plan-requires
 check-plan-requires c κs = search needs

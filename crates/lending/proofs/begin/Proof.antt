@@ -5,12 +5,6 @@ use Rattle.lending.proofs.Begun.{begun-by, asked-moderate, asked-place,
 use borrow.Author.Needs.{needs}
 use Rattle.lending.proofs.begin.Statement.{statement}
 use Rattle.lending.proofs.begin.Tie as tie
-use Rattle.lending.proofs.begin.Reads as reads
-use Rattle.lending.proofs.begin.Lts as lts
-use Rattle.lending.proofs.asked.Reads as asked-reads
-use Rattle.lending.proofs.no_piece.Reads as no-piece-reads
-use Rattle.bounds.proofs.earlier.Reads as earlier-reads
-use Rattle.tasks.proofs.TaskNo.index.Reads as index-reads
 
 asked-requires : tie.Need-asked-requires
 asked-requires c κs = search needs

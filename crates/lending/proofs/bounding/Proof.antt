@@ -1,9 +1,6 @@
 use borrow.Author.Needs.{needs}
 use Rattle.lending.proofs.bounding.Statement.{statement}
 use Rattle.lending.proofs.bounding.Tie as tie
-use Rattle.lending.proofs.bounding.Reads as reads
-use Rattle.lending.proofs.bounding.Lts as lts
-use Rattle.plans.proofs.margin_of.Reads as margin-of-reads
 
 enum-known-answer : tie.Need-enum-known-answer
 enum-known-answer c = search needs

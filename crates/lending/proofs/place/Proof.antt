@@ -3,8 +3,6 @@ use Rattle.lending.specs.Adding.{placedOn}
 use borrow.Author.Needs.{needs}
 use Rattle.lending.proofs.place.Statement.{statement}
 use Rattle.lending.proofs.place.Tie as tie
-use Rattle.lending.proofs.place.Reads as reads
-use Rattle.lending.proofs.place.Lts as lts
 
 mul-piece : tie.Need-mul-piece
 mul-piece c = search needs

@@ -1,9 +1,6 @@
 use borrow.Author.Needs.{needs}
 use Rattle.lending.proofs.unplaced.Statement.{statement}
 use Rattle.lending.proofs.unplaced.Tie as tie
-use Rattle.lending.proofs.unplaced.Reads as reads
-use Rattle.lending.proofs.unplaced.Lts as lts
-use Rattle.lending.proofs.no_piece.Reads as no-piece-reads
 
 no-piece-requires : tie.Need-no-piece-requires
 no-piece-requires c κs = search needs

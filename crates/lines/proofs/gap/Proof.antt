@@ -3,9 +3,6 @@ use Rattle.lines.proofs.Gaps.{no-gap, some-gap}
 use borrow.Author.Needs.{needs}
 use Rattle.lines.proofs.gap.Statement.{statement}
 use Rattle.lines.proofs.gap.Tie as tie
-use Rattle.lines.proofs.gap.Reads as reads
-use Rattle.lines.proofs.gap.Lts as lts
-use Rattle.texts.proofs.Text.words.Reads as words-reads
 
 returns : tie.Need-returns
 returns c = no-gap _ _ (c .if1 .taken)

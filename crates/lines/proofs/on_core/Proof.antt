@@ -2,10 +2,6 @@ use Rattle.texts.specs.Text.{ascii, puts}
 use borrow.Author.Needs.{needs}
 use Rattle.lines.proofs.on_core.Statement.{statement}
 use Rattle.lines.proofs.on_core.Tie as tie
-use Rattle.lines.proofs.on_core.Reads as reads
-use Rattle.lines.proofs.on_core.Lts as lts
-use Rattle.texts.proofs.Text.number.Reads as number-reads
-use Rattle.texts.proofs.Text.words.Reads as words-reads
 
 enum-told : tie.Need-enum-told
 enum-told c = search needs

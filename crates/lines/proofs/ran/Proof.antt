@@ -1,10 +1,6 @@
 use borrow.Author.Needs.{needs}
 use Rattle.lines.proofs.ran.Statement.{statement}
 use Rattle.lines.proofs.ran.Tie as tie
-use Rattle.lines.proofs.ran.Reads as reads
-use Rattle.lines.proofs.ran.Lts as lts
-use Rattle.telling.proofs.refusal.Reads as refusal-reads
-use Rattle.lines.proofs.runs.Reads as runs-reads
 
 enum-told : tie.Need-enum-told
 enum-told c = search needs

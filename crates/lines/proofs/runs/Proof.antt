@@ -1,22 +1,17 @@
 use borrow.Author.Needs.{needs}
+use Rattle.tasks.specs.Below.{row}
 use Rattle.lines.specs.Lines.{gapText, runnerText, runsText}
 use Rattle.texts.specs.Text.{ascii, puts}
 use Rattle.jobs.specs.Jobs.{noRun}
 use lib.ListN.{getD}
 use mathlib.Core.List.{_++_}
 use Rattle.texts.proofs.Putting.{puts-parts, row-turn}
-use Rattle.writing.specs.Fields.{row}
 use Prim.Native.Nat.{_≤_, _-_, min}
 use native.Mathlib.Omega.{arith}
 use mathlib.Core.Logic.{⊎-elim}
 use mathlib.Core.Path.{_≡_, refl}
 use Rattle.lines.proofs.runs.Statement.{statement}
 use Rattle.lines.proofs.runs.Tie as tie
-use Rattle.lines.proofs.runs.Reads as reads
-use Rattle.lines.proofs.runs.Lts as lts
-use Rattle.lines.proofs.gap.Reads as gap-reads
-use Rattle.lines.proofs.on_core.Reads as on-core-reads
-use Rattle.texts.proofs.Text.words.Reads as words-reads
 
 abbrev Inv-loop : tie.InvT-loop
 Inv-loop cores ran most t₀ x₀ t8 t x = (x ≤ most) × (most ≡ min cores 16) × (t ≡ puts t₀ (row x (λ y. gapText y ++ runnerText (getD (ran .runs) y noRun .runner))))

@@ -4,10 +4,6 @@ use Rattle.texts.proofs.Putting.{puts-parts}
 use borrow.Author.Needs.{needs}
 use Rattle.lines.proofs.totals.Statement.{statement}
 use Rattle.lines.proofs.totals.Tie as tie
-use Rattle.lines.proofs.totals.Reads as reads
-use Rattle.lines.proofs.totals.Lts as lts
-use Rattle.texts.proofs.Text.number.Reads as number-reads
-use Rattle.texts.proofs.Text.words.Reads as words-reads
 
 slice-aggregate-words : tie.Need-slice-aggregate-words
 slice-aggregate-words c = search needs

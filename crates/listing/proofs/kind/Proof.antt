@@ -2,9 +2,6 @@ use Rattle.texts.specs.Text.{ascii, puts}
 use borrow.Author.Needs.{needs}
 use Rattle.listing.proofs.kind.Statement.{statement}
 use Rattle.listing.proofs.kind.Tie as tie
-use Rattle.listing.proofs.kind.Reads as reads
-use Rattle.listing.proofs.kind.Lts as lts
-use Rattle.texts.proofs.Text.words.Reads as words-reads
 
 enum-told : tie.Need-enum-told
 enum-told c = search needs

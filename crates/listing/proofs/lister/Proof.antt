@@ -2,12 +2,6 @@ use Rattle.listing.specs.Listing.{listerText}
 use borrow.Author.Needs.{needs}
 use Rattle.listing.proofs.lister.Statement.{statement}
 use Rattle.listing.proofs.lister.Tie as tie
-use Rattle.listing.proofs.lister.Reads as reads
-use Rattle.listing.proofs.lister.Lts as lts
-use Rattle.planner.proofs.plan_table.Reads as plan-table-reads
-use Rattle.listing.proofs.planned.Reads as planned-reads
-use Rattle.telling.proofs.refusal.Reads as refusal-reads
-use Rattle.texts.proofs.Text.empty.Reads as empty-reads
 
 enum-told : tie.Need-enum-told
 enum-told c = search needs

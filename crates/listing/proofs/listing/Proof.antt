@@ -1,20 +1,15 @@
 use borrow.Author.Needs.{needs}
+use Rattle.tasks.specs.Below.{row}
 use Rattle.plans.specs.Pieces.{pieceOf}
 use Rattle.listing.specs.Listing.{headText, pieceText, listingText}
 use Rattle.texts.specs.Text.{ascii, puts}
 use Rattle.texts.proofs.Putting.{puts-parts, row-turn}
-use Rattle.writing.specs.Fields.{row}
 use Prim.Native.Nat.{_≤_, _-_, min}
 use native.Mathlib.Omega.{arith}
 use mathlib.Core.Logic.{⊎-elim}
 use mathlib.Core.Path.{_≡_, refl}
 use Rattle.listing.proofs.listing.Statement.{statement}
 use Rattle.listing.proofs.listing.Tie as tie
-use Rattle.listing.proofs.listing.Reads as reads
-use Rattle.listing.proofs.listing.Lts as lts
-use Rattle.listing.proofs.piece.Reads as piece-reads
-use Rattle.texts.proofs.Text.number.Reads as number-reads
-use Rattle.texts.proofs.Text.words.Reads as words-reads
 
 abbrev Inv-loop : tie.InvT-loop
 Inv-loop plan t₀ most j₀ t j = (j ≤ most) × (most ≡ min (plan .placed) 128) × (t ≡ puts t₀ (row j (λ k. pieceText (pieceOf plan k))))

@@ -4,11 +4,6 @@ use Rattle.texts.proofs.Putting.{puts-parts}
 use borrow.Author.Needs.{needs}
 use Rattle.listing.proofs.piece.Statement.{statement}
 use Rattle.listing.proofs.piece.Tie as tie
-use Rattle.listing.proofs.piece.Reads as reads
-use Rattle.listing.proofs.piece.Lts as lts
-use Rattle.listing.proofs.kind.Reads as kind-reads
-use Rattle.texts.proofs.Text.number.Reads as number-reads
-use Rattle.texts.proofs.Text.words.Reads as words-reads
 
 cast-number : tie.Need-cast-number
 cast-number c = search needs

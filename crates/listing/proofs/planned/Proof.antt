@@ -1,11 +1,6 @@
 use borrow.Author.Needs.{needs}
 use Rattle.listing.proofs.planned.Statement.{statement}
 use Rattle.listing.proofs.planned.Tie as tie
-use Rattle.listing.proofs.planned.Reads as reads
-use Rattle.listing.proofs.planned.Lts as lts
-use Rattle.listing.proofs.listing.Reads as listing-reads
-use Rattle.telling.proofs.refusal.Reads as refusal-reads
-use Rattle.texts.proofs.Text.empty.Reads as empty-reads
 
 empty-requires : tie.Need-empty-requires
 empty-requires c κs = search needs

@@ -9,9 +9,6 @@ use Rattle.planner.proofs.Allowed.{no-margin}
 use borrow.Author.Needs.{needs}
 use Rattle.planner.proofs.allowance.Statement.{statement}
 use Rattle.planner.proofs.allowance.Tie as tie
-use Rattle.planner.proofs.allowance.Reads as reads
-use Rattle.planner.proofs.allowance.Lts as lts
-use Rattle.asking.proofs.bound_of.Reads as bound-of-reads
 
 bound-of-requires : tie.Need-bound-of-requires
 bound-of-requires c κs = search needs

@@ -5,9 +5,6 @@ use mathlib.Core.Path.{_≡_, _∙_}
 use Rattle.planner.proofs.Offered.{begunWith, begun-none, begun-turn, begun-all}
 use Rattle.planner.proofs.begin.Statement.{statement}
 use Rattle.planner.proofs.begin.Tie as tie
-use Rattle.planner.proofs.begin.Reads as reads
-use Rattle.planner.proofs.begin.Lts as lts
-use Rattle.planner.proofs.no_plan.Reads as no-plan-reads
 
 abbrev Inv-loop : tie.InvT-loop
 Inv-loop table n plan₀ i₀ plan i = (i ≤ n) × (n ≤ 64) × (plan ≡ begunWith table i)

@@ -13,11 +13,6 @@ use Rattle.layout.proofs.Placing.{lay-more, lay-stuck}
 use Rattle.planner.proofs.Offered.{offered}
 use Rattle.planner.proofs.lay_out.Statement.{statement}
 use Rattle.planner.proofs.lay_out.Tie as tie
-use Rattle.planner.proofs.lay_out.Reads as reads
-use Rattle.planner.proofs.lay_out.Lts as lts
-use Rattle.planner.proofs.begin.Reads as begin-reads
-use Rattle.planner.proofs.place.Reads as place-reads
-use Rattle.planner.proofs.refused.Reads as refused-reads
 
 abbrev Inv-loop : tie.InvT-loop
 Inv-loop n plan₀ closed₀ i₀ plan closed i = (i ≤ n) × (layFirst (draft plan₀ closed₀) i ≡ laid (draft plan closed))

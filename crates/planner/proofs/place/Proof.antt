@@ -4,11 +4,6 @@ use Rattle.layout.proofs.Placing.{placed-whole, placed-shared}
 use borrow.Author.Needs.{needs}
 use Rattle.planner.proofs.place.Statement.{statement}
 use Rattle.planner.proofs.place.Tie as tie
-use Rattle.planner.proofs.place.Reads as reads
-use Rattle.planner.proofs.place.Lts as lts
-use Rattle.planner.proofs.lowest_whole.Reads as lowest-whole-reads
-use Rattle.planner.proofs.with_piece.Reads as with-piece-reads
-use Rattle.planner.proofs.share_out.Reads as share-out-reads
 
 lowest-whole-requires : tie.Need-lowest-whole-requires
 lowest-whole-requires c κs = search needs

@@ -3,11 +3,6 @@ use Rattle.layout.proofs.Placing.{table-refused, table-laid}
 use borrow.Author.Needs.{needs}
 use Rattle.planner.proofs.plan_table.Statement.{statement}
 use Rattle.planner.proofs.plan_table.Tie as tie
-use Rattle.planner.proofs.plan_table.Reads as reads
-use Rattle.planner.proofs.plan_table.Lts as lts
-use Rattle.planner.proofs.lay_out.Reads as lay-out-reads
-use Rattle.planner.proofs.refused.Reads as refused-reads
-use Rattle.tables.proofs.check_table.Reads as check-table-reads
 
 check-table-requires : tie.Need-check-table-requires
 check-table-requires c κs = search needs

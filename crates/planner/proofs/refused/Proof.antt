@@ -1,9 +1,6 @@
 use borrow.Author.Needs.{needs}
 use Rattle.planner.proofs.refused.Statement.{statement}
 use Rattle.planner.proofs.refused.Tie as tie
-use Rattle.planner.proofs.refused.Reads as reads
-use Rattle.planner.proofs.refused.Lts as lts
-use Rattle.planner.proofs.no_plan.Reads as no-plan-reads
 
 no-plan-requires : tie.Need-no-plan-requires
 no-plan-requires c κs = search needs

@@ -11,12 +11,6 @@ use Rattle.planner.proofs.Allowed.{limit-other, limit-here, limit-nothi
 use Rattle.planner.proofs.Searching.{Sharing, begun, run-out, skip, part, fill, fit}
 use Rattle.planner.proofs.share_out.Statement.{statement}
 use Rattle.planner.proofs.share_out.Tie as tie
-use Rattle.planner.proofs.share_out.Reads as reads
-use Rattle.planner.proofs.share_out.Lts as lts
-use Rattle.planner.proofs.allowance.Reads as allowance-reads
-use Rattle.planner.proofs.give.Reads as give-reads
-use Rattle.planner.proofs.lower.Reads as lower-reads
-use Rattle.tasks.proofs.CoreNo.index.Reads as index-reads
 
 abbrev Inv-loop : tie.InvT-loop
 Inv-loop i m p need w shut placed x₀ n most₀ q₀ x most q = (x ≡ x₀) × (q ≤ n) × (n ≡ w .placed) × (1 ≤ most) × (most ≡ limitOf w p x₀ q)

@@ -3,8 +3,6 @@ use Rattle.layout.specs.Whole.{put}
 use borrow.Author.Needs.{needs}
 use Rattle.planner.proofs.with_piece.Statement.{statement}
 use Rattle.planner.proofs.with_piece.Tie as tie
-use Rattle.planner.proofs.with_piece.Reads as reads
-use Rattle.planner.proofs.with_piece.Lts as lts
 
 mul-z : tie.Need-mul-z
 mul-z c = search needs

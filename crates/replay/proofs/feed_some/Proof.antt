@@ -4,9 +4,6 @@ use lib.ListN.{length, length-map}
 use borrow.Author.Needs.{needs}
 use Rattle.replay.proofs.feed_some.Statement.{statement}
 use Rattle.replay.proofs.feed_some.Tie as tie
-use Rattle.replay.proofs.feed_some.Reads as reads
-use Rattle.replay.proofs.feed_some.Lts as lts
-use Rattle.replay.proofs.read_some.Reads as read-some-reads
 
 returns : tie.Need-returns
 returns c = search needs

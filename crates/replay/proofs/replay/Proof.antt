@@ -1,16 +1,6 @@
 use borrow.Author.Needs.{needs}
 use Rattle.replay.proofs.replay.Statement.{statement}
 use Rattle.replay.proofs.replay.Tie as tie
-use Rattle.replay.proofs.replay.Reads as reads
-use Rattle.replay.proofs.replay.Lts as lts
-use Rattle.console.proofs.print.Reads as print-reads
-use Rattle.texts.proofs.Text.empty.Reads as empty-reads
-use Rattle.telling.proofs.refusal.Reads as refusal-reads
-use Rattle.lines.proofs.totals.Reads as totals-reads
-use Rattle.replay.proofs.feed_some.Reads as feed-some-reads
-use Rattle.replays.proofs.last.Reads as last-reads
-use Rattle.replays.proofs.play.Reads as play-reads
-use Rattle.replays.proofs.start.Reads as start-reads
 
 abbrev Inv-loop : tie.InvT-loop
 Inv-loop plan start player₀ more₀ turns₀ player more turns = Unit {0}

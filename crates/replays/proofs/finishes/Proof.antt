@@ -1,7 +1,7 @@
 use mathlib.Core.Path.{_≡_, ap, _∙_}
 use native.Mathlib.Omega.{arith}
 use lib.ListN.{length, length-map}
-use Rattle.replays.specs.Requests.{finishedIn}
+use Rattle.requests.specs.Requests.{finishedIn}
 use Rattle.replays.proofs.Course.{handed-is}
 use borrow.Author.Needs.{needs}
 use Rattle.replays.proofs.finishes.Statement.{statement}
@@ -13,20 +13,20 @@ smaller-requires c κs = search needs
 smaller-requires-2 : tie.Need-smaller-requires-2
 smaller-requires-2 c κs = search needs
 
-sub-tasks-at : tie.Need-sub-tasks-at
-sub-tasks-at c = search needs
+sub-finished : tie.Need-sub-finished
+sub-finished c = search needs
 
-part-tasks-at-start : tie.Need-part-tasks-at-start
-part-tasks-at-start c = search needs
+part-finished-start : tie.Need-part-finished-start
+part-finished-start c = search needs
 
-part-tasks-at-end : tie.Need-part-tasks-at-end
-part-tasks-at-end c = let l : length (c .before .before .before .before .args .reel .bytes) ≡ 160 = simp length-map at (c .before .before .before .before .good .0 .1 .1 .0 .1 .0 .1) in omega arith
+part-finished-end : tie.Need-part-finished-end
+part-finished-end c = let l : length (c .before .before .before .before .args .reel .bytes) ≡ 160 = simp length-map at (c .before .before .before .before .good .0 .1 .1 .0 .1 .0 .1) in omega arith
 
-tasks-at-requires : tie.Need-tasks-at-requires
-tasks-at-requires c κs = search needs
+finished-requires : tie.Need-finished-requires
+finished-requires c κs = search needs
 
 returns : tie.Need-returns
-returns c = c .tasks-at .ensures ∙ ap finishedIn (handed-is (c .before .before .before .before .before .before .args .reel) _ _ (c .before .before .before .before .smaller .ensures) (c .before .before .before .smaller2 .ensures))
+returns c = c .finished .ensures ∙ ap finishedIn (handed-is (c .before .before .before .before .before .before .args .reel) _ _ (c .before .before .before .before .smaller .ensures) (c .before .before .before .smaller2 .ensures))
 
 pub finishes-spec : {M : Type 1} → statement M
 finishes-spec =
@@ -34,8 +34,8 @@ finishes-spec =
     (tie.spec
     smaller-requires
     smaller-requires-2
-    sub-tasks-at
-    part-tasks-at-start
-    part-tasks-at-end
-    tasks-at-requires
+    sub-finished
+    part-finished-start
+    part-finished-end
+    finished-requires
     returns)

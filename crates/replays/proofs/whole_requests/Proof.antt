@@ -17,29 +17,26 @@ abbrev μ-loop : tie.MeasureT-loop
 loop-holds : tie.Need-loop-holds Inv-loop μ-loop
 loop-holds c = search needs
 
-sub-part : tie.Need-sub-part Inv-loop μ-loop
-sub-part c = search needs
+sub-judge : tie.Need-sub-judge Inv-loop μ-loop
+sub-judge c = search needs
 
-part-part-start : tie.Need-part-part-start Inv-loop μ-loop
-part-part-start c = search needs
+part-judge-start : tie.Need-part-judge-start Inv-loop μ-loop
+part-judge-start c = search needs
 
-part-part-end : tie.Need-part-part-end Inv-loop μ-loop
-part-part-end c = search needs
+part-judge-end : tie.Need-part-judge-end Inv-loop μ-loop
+part-judge-end c = search needs
 
-request-answer-requires : tie.Need-request-answer-requires Inv-loop μ-loop
-request-answer-requires c κs = search needs
+judge-requires : tie.Need-judge-requires Inv-loop μ-loop
+judge-requires c κs = search needs
 
 enum-told : tie.Need-enum-told Inv-loop μ-loop
 enum-told c = search needs
 
 returns : tie.Need-returns Inv-loop μ-loop
-returns c = count-stops _ _ _ _ _ (c .before .before .before .before .before .before .loop .inv .3) (omega arith) (omega arith) (c .before .before .request-answer .ensures) _ (c .enum-told .given .1)
+returns c = count-stops _ _ _ _ _ (c .before .before .before .before .before .before .loop .inv .3) (omega arith) (omega arith) (c .before .before .judge .ensures .0) _ (c .enum-told .given .1)
 
 enum-told-2 : tie.Need-enum-told-2 Inv-loop μ-loop
 enum-told-2 c = search needs
-
-request-size-requires : tie.Need-request-size-requires Inv-loop μ-loop
-request-size-requires c κs = search needs
 
 add-at : tie.Need-add-at Inv-loop μ-loop
 add-at c = search needs
@@ -52,8 +49,9 @@ loop-less c = search needs
 
 loop-again : tie.Need-loop-again Inv-loop μ-loop
 loop-again c =
-    let d = count-goes _ _ _ _ _ (c .before .before .before .before .before .before .before .loop .inv .3) (omega arith) (omega arith) (c .before .before .before .request-answer .ensures) _ (c .before .enum-told2 .given .1) (c .request-size .ensures .0) in
-    (search needs, search needs, count-within _ _ _ _ _ (c .before .before .before .before .before .before .before .loop .inv .3) (omega arith) (omega arith) (c .before .before .before .request-answer .ensures) _ d, d)
+    let inv = c .before .before .before .before .before .before .before .loop .inv .3 in
+    let d = count-goes _ _ _ _ _ inv (omega arith) (omega arith) (c .before .before .before .judge .ensures .0) (c .before .enum-told2 .given .1) in
+    (search needs, search needs, count-within _ _ _ _ _ inv (omega arith) (omega arith) (c .before .before .before .judge .ensures .0) d, d)
 
 returns-2 : tie.Need-returns-2 Inv-loop μ-loop
 returns-2 c = counted-end _ _ _ (c .before .loop .inv .3) (omega arith)
@@ -65,14 +63,13 @@ whole-requests-spec =
     Inv-loop
     μ-loop
     loop-holds
-    sub-part
-    part-part-start
-    part-part-end
-    request-answer-requires
+    sub-judge
+    part-judge-start
+    part-judge-end
+    judge-requires
     enum-told
     returns
     enum-told-2
-    request-size-requires
     add-at
     add-n
     loop-less

@@ -4,10 +4,6 @@ use Rattle.texts.proofs.Putting.{puts-parts}
 use borrow.Author.Needs.{needs}
 use Rattle.responses.proofs.response.Statement.{statement}
 use Rattle.responses.proofs.response.Tie as tie
-use Rattle.responses.proofs.response.Reads as reads
-use Rattle.responses.proofs.response.Lts as lts
-use Rattle.texts.proofs.Text.number.Reads as number-reads
-use Rattle.texts.proofs.Text.words.Reads as words-reads
 
 slice-aggregate-words : tie.Need-slice-aggregate-words
 slice-aggregate-words c = search needs

@@ -1,21 +1,16 @@
 use borrow.Author.Needs.{needs}
+use Rattle.tasks.specs.Below.{row}
 use Rattle.plans.specs.Pieces.{taskOf}
 use Rattle.responses.specs.Responses.{responseText, watchedText}
 use Rattle.texts.specs.Text.{puts}
 use lib.ListN.{getD}
 use Rattle.texts.proofs.Putting.{puts-parts, row-turn}
-use Rattle.writing.specs.Fields.{row}
 use Prim.Native.Nat.{_≤_, _-_, min}
 use native.Mathlib.Omega.{arith}
 use mathlib.Core.Logic.{⊎-elim}
 use mathlib.Core.Path.{_≡_, refl}
 use Rattle.responses.proofs.watched.Statement.{statement}
 use Rattle.responses.proofs.watched.Tie as tie
-use Rattle.responses.proofs.watched.Reads as reads
-use Rattle.responses.proofs.watched.Lts as lts
-use Rattle.lines.proofs.totals.Reads as totals-reads
-use Rattle.responses.proofs.response.Reads as response-reads
-use Rattle.texts.proofs.Text.empty.Reads as empty-reads
 
 abbrev Inv-loop : tie.InvT-loop
 Inv-loop plan watched t₀ most i₀ t i = (i ≤ most) × (most ≡ min (plan .count) 64) × (t ≡ puts t₀ (row i (λ k. responseText k (getD (watched .longest) k 0) (taskOf plan k .deadline))))

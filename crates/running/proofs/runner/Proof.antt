@@ -2,12 +2,6 @@ use Rattle.running.proofs.Running.{ran-lines}
 use borrow.Author.Needs.{needs}
 use Rattle.running.proofs.runner.Statement.{statement}
 use Rattle.running.proofs.runner.Tie as tie
-use Rattle.running.proofs.runner.Reads as reads
-use Rattle.running.proofs.runner.Lts as lts
-use Rattle.dispatch.proofs.fresh.Reads as fresh-reads
-use Rattle.running.proofs.run_from.Reads as run-from-reads
-use Rattle.telling.proofs.refusal.Reads as refusal-reads
-use Rattle.texts.proofs.Text.empty.Reads as empty-reads
 
 empty-requires : tie.Need-empty-requires
 empty-requires c κs = search needs

@@ -8,10 +8,6 @@ use Rattle.jobs.specs.Jobs.{names, noRun}
 use borrow.Author.Needs.{needs}
 use Rattle.runs.proofs.ran_in.Statement.{statement}
 use Rattle.runs.proofs.ran_in.Tie as tie
-use Rattle.runs.proofs.ran_in.Reads as reads
-use Rattle.runs.proofs.ran_in.Lts as lts
-use Rattle.runs.proofs.runs_here.Reads as runs-here-reads
-use Rattle.runs.proofs.smaller.Reads as smaller-reads
 
 abbrev Inv-loop : tie.InvT-loop
 Inv-loop cores i runs most ran₀ x₀ ran x = (x ≤ most) × (most ≤ 16) × (ran ≡ any x (λ y. names i (getD runs y noRun .runner)))

@@ -1,9 +1,6 @@
 use borrow.Author.Needs.{needs}
 use Rattle.runs.proofs.runs_here.Statement.{statement}
 use Rattle.runs.proofs.runs_here.Tie as tie
-use Rattle.runs.proofs.runs_here.Reads as reads
-use Rattle.runs.proofs.runs_here.Lts as lts
-use Rattle.tasks.proofs.TaskNo.index.Reads as index-reads
 
 enum-told : tie.Need-enum-told
 enum-told c = search needs

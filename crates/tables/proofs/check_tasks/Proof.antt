@@ -12,10 +12,6 @@ use lib.ListN.{getD}
 use Rattle.tasks.specs.Tables.{noTask, valuesFit}
 use Rattle.tables.proofs.check_tasks.Statement.{statement}
 use Rattle.tables.proofs.check_tasks.Tie as tie
-use Rattle.tables.proofs.check_tasks.Reads as reads
-use Rattle.tables.proofs.check_tasks.Lts as lts
-use Rattle.tables.proofs.counts.Reads as counts-reads
-use Rattle.tasks.proofs.values_fit.Reads as values-fit-reads
 
 abbrev Inv-loop : tie.InvT-loop
 Inv-loop cores count tasks i₀ i = (i ≤ count) × (count ≤ 64) × (coresFit cores ≡ true) × (tasksFit count ≡ true) × ((k : ℕ) → k < i → valuesFit (getD tasks k noTask) ≡ true)

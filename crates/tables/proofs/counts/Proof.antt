@@ -1,8 +1,6 @@
 use borrow.Author.Tests.{le-leb, lt-leb}
 use Rattle.tables.proofs.counts.Statement.{statement}
 use Rattle.tables.proofs.counts.Tie as tie
-use Rattle.tables.proofs.counts.Reads as reads
-use Rattle.tables.proofs.counts.Lts as lts
 
 returns : tie.Need-returns
 returns c = simp (lt-leb _ _ (c .if1 .taken))

@@ -2,8 +2,6 @@ use Rattle.tasks.proofs.Tables.{values-last}
 use borrow.Author.Tests.{le-leb, lt-leb}
 use Rattle.tasks.proofs.values_fit.Statement.{statement}
 use Rattle.tasks.proofs.values_fit.Tie as tie
-use Rattle.tasks.proofs.values_fit.Reads as reads
-use Rattle.tasks.proofs.values_fit.Lts as lts
 
 returns : tie.Need-returns
 returns c = simp (lt-leb _ _ (c .if1 .taken))

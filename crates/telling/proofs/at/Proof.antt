@@ -4,10 +4,6 @@ use Rattle.texts.proofs.Putting.{puts-parts}
 use borrow.Author.Needs.{needs}
 use Rattle.telling.proofs.at.Statement.{statement}
 use Rattle.telling.proofs.at.Tie as tie
-use Rattle.telling.proofs.at.Reads as reads
-use Rattle.telling.proofs.at.Lts as lts
-use Rattle.texts.proofs.Text.number.Reads as number-reads
-use Rattle.texts.proofs.Text.words.Reads as words-reads
 
 number-requires : tie.Need-number-requires
 number-requires c κs = search needs

@@ -4,10 +4,6 @@ use Rattle.texts.proofs.Putting.{puts-parts}
 use borrow.Author.Needs.{needs}
 use Rattle.telling.proofs.refusal.Statement.{statement}
 use Rattle.telling.proofs.refusal.Tie as tie
-use Rattle.telling.proofs.refusal.Reads as reads
-use Rattle.telling.proofs.refusal.Lts as lts
-use Rattle.telling.proofs.told.Reads as told-reads
-use Rattle.texts.proofs.Text.words.Reads as words-reads
 
 slice-aggregate-words : tie.Need-slice-aggregate-words
 slice-aggregate-words c = search needs

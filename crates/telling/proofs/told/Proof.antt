@@ -9,13 +9,6 @@ use Rattle.texts.proofs.Putting.{puts-parts}
 use borrow.Author.Needs.{needs}
 use Rattle.telling.proofs.told.Statement.{statement}
 use Rattle.telling.proofs.told.Tie as tie
-use Rattle.telling.proofs.told.Reads as reads
-use Rattle.telling.proofs.told.Lts as lts
-use Rattle.telling.proofs.at.Reads as at-reads
-use Rattle.telling.proofs.given.Reads as given-reads
-use Rattle.telling.proofs.of.Reads as of-reads
-use Rattle.texts.proofs.Text.number.Reads as number-reads
-use Rattle.texts.proofs.Text.words.Reads as words-reads
 
 -- the line of a refusal that is known
 told-as : (t : Text) {r : Text} {x y : Refusal} → x ≡ y → r ≡ puts t (decimal (number y) ++ toldText (tells y)) → r ≡ puts t (decimal (number x) ++ toldText (tells x))

@@ -3,8 +3,6 @@ use Rattle.texts.specs.Text.{put}
 use borrow.Author.Needs.{needs}
 use Rattle.texts.proofs.Text.byte.Statement.{statement}
 use Rattle.texts.proofs.Text.byte.Tie as tie
-use Rattle.texts.proofs.Text.byte.Reads as reads
-use Rattle.texts.proofs.Text.byte.Lts as lts
 
 returns : tie.Need-returns
 unfolding put

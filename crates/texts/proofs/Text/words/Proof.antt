@@ -6,9 +6,6 @@ use Rattle.texts.specs.Text.{puts}
 use Rattle.texts.proofs.Putting.{puts-next, puts-end}
 use Rattle.texts.proofs.Text.words.Statement.{statement}
 use Rattle.texts.proofs.Text.words.Tie as tie
-use Rattle.texts.proofs.Text.words.Reads as reads
-use Rattle.texts.proofs.Text.words.Lts as lts
-use Rattle.texts.proofs.Text.byte.Reads as byte-reads
 
 abbrev Inv-loop : tie.InvT-loop
 Inv-loop words t₀ i₀ t i = (i ≤ length words) × (puts t (drop i words) ≡ puts t₀ words)
