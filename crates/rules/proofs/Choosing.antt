@@ -80,8 +80,9 @@ pub stand-made : (p : Plan) (s : State) (i t n : ℕ) (more : Bool) → t ≡ pi
 stand-made p s i t n more h a l = rw (a, active-no, l, h)
 
 -- what is read of a job and of its core says whether it runs, and makes of it what rules 4 and 5 do
-pub ran-turn : (p : Plan) (s : State) (i : ℕ) (st : Stand) (core : CoreRun) (n : ℕ) (r : Job) → i < 256 → st ≡ standOf p s i → core ≡ chosen p s (st .piece .core .0) → n ≡ runnerNo (core .runner) → (pieceAt p s i ≡ st .piece → isLast (pieceOf p) (p .placed) (jobOf s i .piece) ≡ not (st .more) → r ≡ cond (st .active && eqb n i) (ranJob p (jobOf s i)) (jobOf s i)) → r ≡ cond (runsNow p s i) (ranJob p (jobOf s i)) (jobOf s i)
-ran-turn p s i st core n r b q h w f = f (rw q) (rw q (twice _)) ∙ rw (w, named-no (core .runner) i b, h, q)
+pub ran-turn : (p : Plan) (s : State) (i : ℕ) (j : Job) (st : Stand) (core : CoreRun) (n : ℕ) (r : Job) → i < 256 → j ≡ jobOf s i → st ≡ standOf p s i → core ≡ chosen p s (st .piece .core .0) → n ≡ runnerNo (core .runner)
+    → (pieceOf p (j .piece) ≡ st .piece → isLast (pieceOf p) (p .placed) (j .piece) ≡ not (st .more) → r ≡ cond (st .active && eqb n i) (ranJob p j) j) → r ≡ cond (runsNow p s i) (ranJob p j) j
+ran-turn p s i j st core n r b e q h w f = f (rw (e, q)) (rw (e, q) (twice _)) ∙ rw (w, named-no (core .runner) i b, h, q)
 
 -- a piece that is not its task's last has one after it
 pub not-last : (pc : ℕ → Piece) (n j : ℕ) → isLast pc n j ≡ false → suc j < n

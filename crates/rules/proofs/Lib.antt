@@ -1,4 +1,5 @@
 pub mod Walks
+pub mod InPlace
 pub mod Highest
 pub mod Choosing
 pub mod Reading

@@ -6,12 +6,12 @@ use native.Mathlib.Omega.{arith}
 use Rattle.tasks.specs.Below.{all}
 use Rattle.tasks.proofs.Below.{all-each}
 use Rattle.tasks.proofs.Bools.{both}
-use Rattle.tasks.proofs.Padded.{padded-in, padded-out}
+use Rattle.tasks.proofs.Padded.{padded-length, padded-in, padded-out}
 use Rattle.plans.specs.declared.Plan.{Plan}
 use Rattle.jobs.specs.Jobs.{noJob, noRun, names}
 use Rattle.rules.specs.States.{jobOf, lastOf, wellMade}
 use Rattle.rules.specs.Rules.{eachJob, finishedJob, finish, markedJob, markLate, releasedJob, release, pieceAt, highest, chosen, runsNow, ranJob, run, countPreempted, agedJob, age}
-use Rattle.rules.specs.Sound.{AtPieces}
+use Rattle.rules.specs.Sound.{AtPieces, Filled}
 use Rattle.made.specs.WellMade.{jobWellMade}
 use Rattle.jobs.specs.declared.CoreRun.{CoreRun}
 use Rattle.jobs.specs.declared.Job.{Job}
@@ -33,6 +33,28 @@ each-out p f s i l = padded-out 64 noJob (p .count) (λ k. f k (jobOf s k)) i l
 pub finish-out : (p : Plan) (fs : Tasks) (s : State) (i : ℕ) → p .count ≤ i → jobOf (finish p fs s) i ≡ noJob
 unfolding finish
 finish-out p fs s i l = each-out p (finishedJob fs) s i l
+
+-- a rule leaves a whole list of jobs, and none past the plan's tasks
+each-filled : (p : Plan) (f : ℕ → Job → Job) (s t : State) → t .jobs ≡ eachJob p f s .jobs → Filled (p .count) t
+unfolding eachJob
+each-filled p f s t e = record { whole = rw e (padded-length 64 noJob (p .count) _); rest = λ i l. rw e (each-out p f s i l) }
+
+module _ (p : Plan) (s : State) where
+  pub finish-filled : (fs : Tasks) → Filled (p .count) (finish p fs s)
+  unfolding finish
+  finish-filled fs = each-filled p (finishedJob fs) s _ refl
+
+  pub mark-filled : Filled (p .count) (markLate p s)
+  unfolding markLate
+  mark-filled = each-filled p (markedJob p) s _ refl
+
+  pub release-filled : (rs : Tasks) → Filled (p .count) (release p rs s)
+  unfolding release
+  release-filled rs = each-filled p (releasedJob p rs) s _ refl
+
+  pub run-filled : (after : State) → Filled (p .count) (countPreempted p after (run p s))
+  unfolding run countPreempted
+  run-filled after = each-filled p (λ i j. cond (runsNow p s i) (ranJob p j) j) s _ refl
 
 module _ (p : Plan) (g : Good p) where
   -- ---- what a rule does to the job of a task of the plan

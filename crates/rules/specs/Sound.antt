@@ -1,7 +1,10 @@
 -- What the rules count on once the plan and the state have been checked.
+use mathlib.Core.Path.{_≡_}
 use Prim.Native.Nat.{ℕ, _≤_, _<_}
+use lib.ListN.{length}
 use Rattle.plans.specs.Pieces.{pieceOf}
 use Rattle.plans.specs.declared.Plan.{Plan}
+use Rattle.jobs.specs.Jobs.{noJob}
 use Rattle.rules.specs.States.{jobOf}
 use Rattle.rules.specs.declared.State.{State}
 
@@ -16,3 +19,8 @@ pub record Sound (p : Plan) : Type 0 where
 -- each job is at a piece of the plan, the first where it is not active
 abbrev pub AtPieces : Plan → State → Type 0
 AtPieces p s = (i : ℕ) → i < p .count → jobOf s i .piece < p .placed
+
+-- the list of jobs is whole, and past the first n there is none
+pub record Filled (n : ℕ) (s : State) : Type 0 where
+  pub whole : length (s .jobs) ≡ 64
+  pub rest : (i : ℕ) → n ≤ i → jobOf s i ≡ noJob

@@ -13,7 +13,7 @@ ghost use Rattle.jobs.specs.declared.Runner.the-variants.{Runs};
 ghost use Rattle.rules.specs.Advance.{nextState, advance as advancing};
 ghost use Rattle.rules.specs.Choice.{noStand, standOf, StandsOf, found as foundBest};
 ghost use Rattle.rules.specs.Rules.{total as totalled, endedJob, finishedJob, finish, markLate, firstPiece, releasedJob, release, age as aged, chosen, ranJob, run, agedJob, countPreempted};
-ghost use Rattle.rules.specs.Sound.{Sound, AtPieces};
+ghost use Rattle.rules.specs.Sound.{Sound, AtPieces, Filled};
 ghost use Rattle.rules.specs.States.{wellMade};
 use jobs::CoreRun;
 use jobs::Job;
@@ -100,54 +100,45 @@ impl State {
 
     // Rule 2: each active job with age = d and no late mark is marked and counted late.
     fn mark_late(mut self, count: usize, tasks: [Task; 64]) -> State
-        requires { ⌜ count ≤ 64 ⌝ }
+        requires { ⌜ (count ≤ 64) × Filled count self ⌝ }
         ensures { λ r. ⌜ ((p : Plan) → p .count ≡ count → p .tasks ≡ tasks → r ≡ markLate p self) ⌝ }
     {
-        let empty = no_job();
-        let mut jobs = [empty; 64];
         let mut late: u32 = 0;
         let mut i = 0;
         while i < count {
             let mut job = self.jobs[i];
             let turns = (jobs::phase_no(job) == 1) & (job.age == tasks[i].deadline) & !job.late;
             job.late = turns | job.late;
-            jobs[i] = job;
+            self.jobs[i] = job;
             late += turns as u32;
             i += 1;
         }
-        self.jobs = jobs;
         self.late = total(self.late, late);
         self
     }
 
     // Rule 3: each released task becomes active, age 0, first piece.
     fn release(mut self, count: usize, firsts: [u8; 256], released: Tasks) -> State
-        requires { ⌜ count ≤ 64 ⌝ }
+        requires { ⌜ (count ≤ 64) × Filled count self ⌝ }
         ensures { λ r. ⌜ ((p : Plan) → p .count ≡ count → firsts ≡ tabulate 256 (firstPiece p) → r ≡ release p released self) ⌝ }
     {
         let marks = jobs::marks(released);
-        let empty = no_job();
-        let mut jobs = [empty; 64];
         let mut i = 0;
         while i < count {
-            jobs[i] = released_job(self.jobs[i], marks[i], firsts[i]);
+            self.jobs[i] = released_job(self.jobs[i], marks[i], firsts[i]);
             i += 1;
         }
-        self.jobs = jobs;
         self
     }
 
     // Rules 4 and 5: all runners are chosen before any of them has run.
-    fn run(mut self, plan: Plan) -> State
-        requires { ⌜ Sound plan × AtPieces plan self ⌝ }
+    fn run(self, plan: Plan) -> State
+        requires { ⌜ Sound plan × AtPieces plan self × Filled (plan .count) self ⌝ }
         ensures { λ r. ⌜ r ≡ run plan self ⌝ }
     {
         let stands = self.stands(plan);
         let last = choose(plan, stands);
-        let jobs = self.ran_jobs(plan, stands, last);
-        self.jobs = jobs;
-        self.last = last;
-        self
+        self.ran(plan, stands, last)
     }
 
     // Where each job stands.
@@ -187,21 +178,20 @@ impl State {
         stands
     }
 
-    // The jobs after those that were chosen have run.
-    fn ran_jobs(self, plan: Plan, stands: [Stand; 64], last: [CoreRun; 16]) -> [Job; 64]
-        requires { ⌜ Sound plan × StandsOf plan self stands × (last ≡ padded 16 (plan .cores) noRun (chosen plan self)) ⌝ }
-        ensures { λ r. ⌜ r ≡ run plan self .jobs ⌝ }
+    // The state after those that were chosen have run, the stands being its own.
+    fn ran(mut self, plan: Plan, stands: [Stand; 64], last: [CoreRun; 16]) -> State
+        requires { ⌜ Sound plan × StandsOf plan self stands × (last ≡ padded 16 (plan .cores) noRun (chosen plan self)) × Filled (plan .count) self ⌝ }
+        ensures { λ r. ⌜ r ≡ run plan self ⌝ }
     {
-        let empty = no_job();
-        let mut jobs = [empty; 64];
         let mut i = 0;
         while i < plan.count {
             let stand = stands[i];
             let runner = jobs::runner_no(last[stand.piece.core.index()]);
-            jobs[i] = ran_job(self.jobs[i], runner == i, stand);
+            self.jobs[i] = ran_job(self.jobs[i], runner == i, stand);
             i += 1;
         }
-        jobs
+        self.last = last;
+        self
     }
 
     // The preemptions, `jobs` and `last` being those of the state after rule 1 and this one having what runs now.
@@ -224,17 +214,14 @@ impl State {
 
     // Rule 6: ages of all tasks once released rise by 1, up to p.
     fn age(mut self, count: usize, tasks: [Task; 64]) -> State
-        requires { ⌜ count ≤ 64 ⌝ }
+        requires { ⌜ (count ≤ 64) × Filled count self ⌝ }
         ensures { λ r. ⌜ ((p : Plan) → p .count ≡ count → p .tasks ≡ tasks → r ≡ aged p self) ⌝ }
     {
-        let empty = no_job();
-        let mut jobs = [empty; 64];
         let mut i = 0;
         while i < count {
-            jobs[i] = aged_job(self.jobs[i], tasks[i].period);
+            self.jobs[i] = aged_job(self.jobs[i], tasks[i].period);
             i += 1;
         }
-        self.jobs = jobs;
         self
     }
 }

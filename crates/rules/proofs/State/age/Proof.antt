@@ -1,32 +1,25 @@
 use mathlib.Core.List.{List}
-use mathlib.Core.Path.{_≡_, ap}
+use mathlib.Core.Path.{_≡_, ap, _∙_}
 use Prim.Native.Nat.{_-_, _≤_}
 use native.Mathlib.Omega.{arith}
 use lib.ListN.{getD}
 use borrow.Author.Needs.{needs}
-use Rattle.tasks.proofs.Padded.{padded-turn}
-use Rattle.tasks.proofs.Tabulate.{padded-start}
-use Rattle.tasks.specs.Below.{padded}
 use Rattle.tasks.specs.Tables.{noTask}
 use Rattle.tasks.specs.declared.Task.{Task}
 use Rattle.plans.specs.declared.Plan.{Plan}
-use Rattle.jobs.specs.Jobs.{noJob}
-use Rattle.rules.specs.Rules.{agedJob, age, eachJob}
-use Rattle.rules.specs.States.{jobOf}
+use Rattle.rules.specs.Rules.{agedJob, age}
+use Rattle.rules.proofs.InPlace.{changed, changed-start, changed-turn, changed-all}
 use Rattle.rules.proofs.State.age.Statement.{statement}
 use Rattle.rules.proofs.State.age.Tie as tie
 
 abbrev Inv-loop : tie.InvT-loop
-Inv-loop count self tasks jobs₀ i₀ jobs i = (i ≤ count) × (count ≤ 64) × ((p : Plan) → p .tasks ≡ tasks → jobs ≡ padded 64 i noJob (λ k. agedJob p k (jobOf self k)))
+Inv-loop count self₀ tasks i₀ self i = (i ≤ count) × (count ≤ 64) × ((p : Plan) → p .tasks ≡ tasks → self ≡ changed (agedJob p) self₀ i)
 
 abbrev μ-loop : tie.MeasureT-loop
-μ-loop count self tasks jobs₀ i₀ jobs i = count - i
-
-no-job-requires : tie.Need-no-job-requires Inv-loop μ-loop
-no-job-requires c κs = search needs
+μ-loop count self₀ tasks i₀ self i = count - i
 
 loop-holds : tie.Need-loop-holds Inv-loop μ-loop
-loop-holds c = (search needs, search needs, λ p e. rw (c .no-job .ensures) (padded-start 64 noJob _))
+loop-holds c = (search needs, search needs, λ p e. changed-start (agedJob p) _ (c .pre .1 .whole))
 
 mul-aged-job : tie.Need-mul-aged-job Inv-loop μ-loop
 mul-aged-job c = search needs
@@ -43,11 +36,11 @@ element-copy-out-aged-job-2 c = search needs
 aged-job-requires : tie.Need-aged-job-requires Inv-loop μ-loop
 aged-job-requires c κs = search needs
 
-mul-jobs : tie.Need-mul-jobs Inv-loop μ-loop
-mul-jobs c = search needs
+mul-t17 : tie.Need-mul-t17 Inv-loop μ-loop
+mul-t17 c = search needs
 
-array-set-from-jobs : tie.Need-array-set-from-jobs Inv-loop μ-loop
-array-set-from-jobs c = search needs
+element-set-from-self : tie.Need-element-set-from-self Inv-loop μ-loop
+element-set-from-self c = search needs
 
 add-i : tie.Need-add-i Inv-loop μ-loop
 add-i c = search needs
@@ -56,11 +49,11 @@ loop-less : tie.Need-loop-less Inv-loop μ-loop
 loop-less c = search needs
 
 loop-again : tie.Need-loop-again Inv-loop μ-loop
-loop-again c = (search needs, search needs, λ p e. padded-turn 64 noJob _ _ _ _ (search needs) (c .before .before .before .loop .inv .2 p e) (c .aged-job .ensures p _ (ap (λ (ts : List Task). getD ts (c .before .before .before .loop .i) noTask .period) e)))
+loop-again c = (search needs, search needs, λ p e. changed-turn (agedJob p) _ _ _ _ (c .before .before .before .loop .inv .2 p e) (search needs) (c .aged-job .ensures p _ (ap (λ (ts : List Task). getD ts (c .before .before .before .loop .i) noTask .period) e)))
 
 returns : tie.Need-returns Inv-loop μ-loop
-unfolding age eachJob
-returns c = λ p h q. let e : c .before .loop .i ≡ c .before .before .before .args .count = omega arith in rw (c .before .loop .inv .2 p q, e, h)
+unfolding age
+returns c = λ p h q. let e : c .before .loop .i ≡ p .count = omega (arith, h) in c .before .loop .inv .2 p q ∙ ap (changed (agedJob p) _) e ∙ changed-all (agedJob p) _ p (rw h (c .before .before .pre .1))
 
 pub age-spec : {M : Type 1} → statement M
 age-spec =
@@ -68,15 +61,14 @@ age-spec =
     (tie.spec
     Inv-loop
     μ-loop
-    no-job-requires
     loop-holds
     mul-aged-job
     element-copy-out-aged-job
     mul-aged-job-2
     element-copy-out-aged-job-2
     aged-job-requires
-    mul-jobs
-    array-set-from-jobs
+    mul-t17
+    element-set-from-self
     add-i
     loop-less
     loop-again
