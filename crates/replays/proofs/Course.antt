@@ -2,7 +2,6 @@
 use mathlib.Core.Path.{_≡_, refl, sym, ap, _∙_}
 use Prim.Native.Nat.{ℕ, zero, suc, _+_, _-_, _≤_, _<_, min}
 use native.Mathlib.Omega.{arith}
-use borrow.Author.Tests.{le-leb, lt-leb}
 use native.Mathlib.Decide.{decLt}
 use native.Mathlib.Nat.{zero-add}
 use mathlib.Core.List.{List, []}
@@ -24,7 +23,6 @@ use Rattle.tasks.specs.Places.{placeAt, further}
 use Rattle.requests.specs.Requests.{requestSize, requestAnswer, judged}
 use Rattle.requests.specs.declared.Judged.{Judged}
 use Rattle.replays.specs.Replay.{tickAsked, Standing, next, played, wholes, standing, playedOn}
-use Rattle.players.specs.Players.{atHand}
 use Rattle.replays.specs.Turns.{endOf, beginOf, handed, finishesOf, releasesOf, shownOf, shotOf, shotAfter}
 use Rattle.players.specs.declared.Player.{Player}
 use Rattle.replays.specs.declared.Reel.{Reel}

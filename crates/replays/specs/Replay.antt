@@ -1,13 +1,12 @@
 -- A replay: the length of a plan file in two bytes, high first, that plan file, and then ticks to the end of the input.
 use mathlib.Core.Bool.{cond}
 use mathlib.Core.List.{List, [], _++_}
-use Prim.Native.Nat.{ℕ, zero, suc, _+_, _-_, _*_, min}
+use Prim.Native.Nat.{ℕ, zero, suc, _+_, _-_, _*_}
 use lib.Dec.{ltb, leb}
-use lib.ListN.{length, getD, take, drop, replicate}
+use lib.ListN.{length, getD, take, drop}
 use Rattle.tasks.specs.Below.{padded}
 use Rattle.tasks.specs.declared.Answer.{Answer}
 use Rattle.tasks.specs.declared.Answer.the-variants.{Accepted, Refused}
-use Rattle.tasks.specs.declared.Place.{Place}
 use Rattle.tasks.specs.declared.Refusal.the-variants.{CutShort}
 use Rattle.plans.specs.declared.Plan.{Plan}
 use Rattle.tasks.specs.Places.{placeAt, further}
@@ -19,7 +18,7 @@ use Rattle.rules.specs.declared.State.{State}
 use Rattle.dispatch.specs.declared.Ticked.{Ticked}
 use Rattle.lines.specs.Lines.{tickedText, totalsText}
 use Rattle.telling.specs.Telling.{answerText, refusalText}
-use Rattle.texts.specs.Text.{noText, textOf}
+use Rattle.texts.specs.Text.{textOf}
 use Rattle.requests.specs.Requests.{finishedIn, releasedIn, requestSize, requestAnswer}
 use Rattle.players.specs.Players.{atHand}
 use Rattle.players.specs.declared.Player.{Player}

@@ -1,6 +1,6 @@
 // Replays: ticks that come as bytes, one request after another, are made where they are whole, and the lines that they print.
 ghost use mathlib.Core.Path.{_≡_};
-ghost use Prim.Native.Nat.{_+_, _-_, _≤_, _<_};
+ghost use Prim.Native.Nat.{_+_, _-_, _≤_};
 ghost use lib.ListN.{getD, take};
 ghost use Rattle.tasks.specs.Below.{padded};
 ghost use Rattle.requests.specs.Requests.{finishedIn, releasedIn};
