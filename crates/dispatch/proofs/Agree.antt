@@ -16,6 +16,7 @@ use Rattle.tasks.specs.declared.Refusal.the-variants.{NotRun, TooSoon, StillAct
 use Rattle.tasks.specs.declared.TaskNo.{TaskNo}
 use Rattle.tasks.proofs.Below.{all-same, any-same, first-same, count-same}
 use Rattle.tasks.proofs.Padded.{padded-same}
+use Rattle.tasks.proofs.Answers.{accepted-not}
 use Rattle.plans.specs.Pieces.{taskOf, pieceOf, SamePlan}
 use Rattle.plans.specs.Rank.{above}
 use Rattle.plans.specs.declared.Piece.{Piece}
@@ -35,7 +36,7 @@ use Rattle.jobs.specs.declared.Runner.{Runner}
 use Rattle.jobs.specs.declared.Runner.the-variants.{Idle, Runs}
 use Rattle.rules.specs.declared.State.{State}
 use Rattle.jobs.specs.declared.Tasks.{Tasks}
-use Rattle.rules.proofs.Checked.{accepted-not, Good, good, sound}
+use Rattle.rules.proofs.Checked.{Good, good, sound}
 use Rattle.dispatch.proofs.Checked.{Taken, taken}
 use Rattle.dispatch.proofs.Kept.{ready, by-judged}
 use Rattle.rules.proofs.Steps.{finish-out, ready-pieces}

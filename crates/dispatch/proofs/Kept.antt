@@ -3,10 +3,9 @@ use mathlib.Core.Path.{_≡_, refl, sym, ap, _∙_}
 use mathlib.Core.Bool.{true, false, not, _&&_, cond}
 use mathlib.Core.Logic.{_⊎_, inl, inr}
 use Prim.Native.Nat.{ℕ, _≤_, _<_}
-use native.Mathlib.Decide.{decLt}
 use native.Mathlib.Omega.{arith}
 use lib.Dec.{ltb}
-use lib.ListN.{length, getD, replicate, length-replicate, getD-replicate, List·getD-eq-default}
+use lib.ListN.{replicate}
 use borrow.Author.Tests.{lt-ltb, eq-eqb}
 use Rattle.tasks.specs.Below.{any}
 use Rattle.tasks.specs.declared.Answer.{Answer}
@@ -14,6 +13,8 @@ use Rattle.tasks.specs.declared.Answer.the-variants.{Accepted, Refused}
 use Rattle.tasks.specs.declared.Refusal.{Refusal}
 use Rattle.tasks.proofs.Below.{all-make, any-none}
 use Rattle.tasks.proofs.Bools.{either, both, both-make}
+use Rattle.tasks.proofs.Answers.{accepted-not}
+use Rattle.tasks.proofs.Tabulate.{replicate-at}
 use Rattle.plans.specs.declared.Plan.{Plan}
 use Rattle.jobs.specs.Jobs.{noJob, noRun, byRunner, isActive, onceReleased, names}
 use Rattle.rules.specs.States.{freshState, jobOf, lastOf, CleanState, wellMade}
@@ -27,7 +28,7 @@ use Rattle.jobs.specs.declared.Runner.the-variants.{Idle, Runs}
 use Rattle.rules.specs.declared.State.{State}
 use Rattle.jobs.specs.declared.Tasks.{Tasks}
 use Rattle.dispatch.specs.declared.Ticked.{Ticked}
-use Rattle.rules.proofs.Checked.{accepted-not, Good, good}
+use Rattle.rules.proofs.Checked.{Good, good}
 use Rattle.dispatch.proofs.Checked.{Taken, taken}
 use Rattle.rules.proofs.Highest.{runner-stands, runs-once}
 use Rattle.rules.proofs.Sitting.{aged-phase, stepped-once}
@@ -43,7 +44,7 @@ module _ (p : Plan) (g : Good p) (fs rs : Tasks) (s : State) where
   unfolding nextState age eachJob countPreempted
   next-last x l = run-last p g (ready p fs rs s) x l
 
-  next-past : (x : ℕ) → p .cores ≤ x → lastOf (nextState p fs rs s) x ≡ Idle
+  pub next-past : (x : ℕ) → p .cores ≤ x → lastOf (nextState p fs rs s) x ≡ Idle
   unfolding nextState age eachJob countPreempted
   next-past x l = run-past p g (ready p fs rs s) x l
 
@@ -115,14 +116,6 @@ module _ (p : Plan) (s : State) (fs rs : Tasks) where
   accepted-made = by-judged (λ t. t .answer ≡ Accepted → (wellMade p s ≡ true) × (wellMade p (t .state) ≡ true) × CleanState p (t .state)) (λ r e h. accepted-not h) (λ e h. let k : Taken p s fs rs = taken p s fs rs e in let g : Good p = good p (k .plan) in (k .state, next-made p g fs rs s (k .state), next-clean p g fs rs s))
 
 -- ---- a fresh state is well made and clean, whatever the plan
--- one value everywhere
-replicate-at : {A : Type 0} (n i : ℕ) (v : A) → getD (replicate n v) i v ≡ v
-replicate-at n i v = go (decLt i n)
-  where
-    go : Dec (i < n) → getD (replicate n v) i v ≡ v
-    go (yes l) = getD-replicate n i v v l
-    go (no l) = let b : length (replicate n v) ≤ i = omega (arith, length-replicate n v) in List·getD-eq-default (replicate n v) v b
-
 fresh-job : (i : ℕ) → jobOf freshState i ≡ noJob
 fresh-job i = replicate-at 64 i noJob
 

@@ -10,7 +10,7 @@ use lib.Dec.{ltb, leb, eqb}
 use lib.ListN.{length, getD, set, drop, drop-of-length-le}
 use lib.Seq.{drop-cons}
 use borrow.Author.Tests.{leb-false, ltb-true, ltb-false, eqb-true, eqb-false, eq-eqb, ne-eqb, lt-ltb, le-ltb, not-true}
-use Rattle.tasks.proofs.Bools.{both, clash}
+use Rattle.tasks.proofs.Bools.{both, clash, or-false}
 use Rattle.tasks.specs.Places.{further}
 use Rattle.tasks.specs.Tables.{coresFit, valuesFit}
 use Rattle.plans.specs.declared.Plan.{Plan}
@@ -23,10 +23,6 @@ reader f p = record { field = f; plan = p }
 
 -- ---- what a field is found to be
 
-or-none : (x : Bool) → x || false ≡ x
-or-none true = refl
-or-none false = refl
-
 -- a test for each of three tags
 by-tag : (t : ℕ) (x y z : Bool) → (eqb t 1 && x || eqb t 2 && y) || eqb t 3 && z ≡ cond (eqb t 1) x (cond (eqb t 2) y (cond (eqb t 3) z false))
 by-tag t x y z = go (ℕ-discrete t 1) (ℕ-discrete t 2)
@@ -36,8 +32,8 @@ by-tag t x y z = go (ℕ-discrete t 1) (ℕ-discrete t 2)
     last false = refl
 
     go : Dec (t ≡ 1) → Dec (t ≡ 2) → (eqb t 1 && x || eqb t 2 && y) || eqb t 3 && z ≡ cond (eqb t 1) x (cond (eqb t 2) y (cond (eqb t 3) z false))
-    go (yes a) d = rw a (or-none (x || false) ∙ or-none x)
-    go (no a) (yes b) = rw b (or-none y)
+    go (yes a) d = rw a (or-false (x || false) ∙ or-false x)
+    go (no a) (yes b) = rw b (or-false y)
     go (no a) (no b) = rw (ne-eqb t 1 a, ne-eqb t 2 b) (last (eqb t 3))
 
 pub tags-fit : (f : Field) → (eqb (tag f) 1 && eqb (f .place) 0 || eqb (tag f) 2 && leb (f .place) (f .end)) || eqb (tag f) 3 && f .pieces ≡ tagFits f

@@ -1,20 +1,16 @@
 -- Every plan that the planner makes: it is over the table's cores and tasks, its pieces are few, it has the plan shape, and it has the certificate.
-use mathlib.Core.Path.{_≡_, refl, sym, _∙_, subst}
-use mathlib.Core.Bool.{true}
+use mathlib.Core.Path.{_≡_, refl, sym, subst}
 use Prim.Native.Nat.{ℕ, _+_, _≤_, _<_}
 use native.Mathlib.Nat.{le-refl}
 use native.Mathlib.Omega.{arith}
-use borrow.Author.Tests.{le-leb}
-use Rattle.tasks.proofs.Bools.{both-make}
 use Rattle.tasks.proofs.Padded.{padded-out}
-use Rattle.tasks.proofs.Tables.{GoodTable, Ranges, values-last, all-good}
-use Rattle.tasks.specs.Tables.{noTask, valuesFit, checkedTasks, checkedTable}
+use Rattle.tasks.proofs.Tables.{good-accepted}
+use Rattle.tasks.specs.Tables.{noTask, checkedTable}
 use Rattle.tasks.specs.Tables as table
 use Rattle.tasks.specs.declared.Answer.{Answer}
 use Rattle.tasks.specs.declared.Answer.the-variants.{Accepted, Refused}
-use Rattle.tasks.specs.declared.Refusal.{Refusal}
 use Rattle.tasks.specs.declared.Table.{Table}
-use Rattle.tasks.specs.declared.Task.{Task}
+use Rattle.tasks.proofs.Answers.{accepted-not}
 use Rattle.shapes.proofs.Shaped.{shape-accepted}
 use Rattle.bounds.specs.Bound.{localDeadline, bound}
 use Rattle.bounds.specs.Certificate.{Certified}
@@ -27,13 +23,6 @@ use Rattle.layout.proofs.Keeps.{Keeps, lay-keeps}
 use Rattle.layout.proofs.Reached.{lay-ready, lay-few}
 use Rattle.layout.proofs.Shape.{laid-shape}
 
--- a good table is accepted
-good-accepted : (m n : ℕ) (ts : ℕ → Task) → GoodTable m n ts → checkedTasks m n ts ≡ Accepted
-good-accepted m n ts g = all-good m n ts (both-make (le-leb 1 m (g .cores .0)) (le-leb m 16 (g .cores .1))) (both-make (le-leb 1 n (g .tasks .0)) (le-leb n 64 (g .tasks .1))) (λ k h. fits (ts k) (g .values k h))
-  where
-    fits : (t : Task) → Ranges t → valuesFit t ≡ true
-    fits t r = sym (values-last t (r .some) (r .short) (r .inside)) ∙ le-leb (t .period) 1000000 (r .most)
-
 -- a draft in which every task is laid out has the plan shape
 complete-shape : (d : Draft) → LaidBefore (d .plan .count) d → checkedPlan (d .plan) ≡ Accepted
 complete-shape d R = shape-accepted (d .plan) (good-accepted _ _ _ (R .good)) (laid-shape _ _ _ _ _ _ _ (R .laid) (R .good .tasks .0) (omega (arith, drafted-room _ _ 0 d R (le-refl _))))
@@ -45,16 +34,13 @@ pub record Planning (t : Table) : Type 0 where
   pub lays : layFirst (start t) (t .count) ≡ laid draft
   pub plan : planned t .plan ≡ draft .plan
 
-pub refused-accepted : {A : Type 0} {r : Refusal} → Refused r ≡ Accepted → A
-refused-accepted e = let z : _≡_ {A = ℕ} 0 1 = cc in absurd (omega arith)
-
 pub accepted-planning : (t : Table) → planned t .answer ≡ Accepted → Planning t
 unfolding planned
 accepted-planning t h = go _ refl _ refl
   where
     go : (a : Answer) → checkedTable t ≡ a → (l : Laying) → layFirst (start t) (t .count) ≡ l → Planning t
-    go (Refused r) p l q = refused-accepted (rw p at h)
-    go Accepted p (stuck k) q = refused-accepted (rw (p, q) at h)
+    go (Refused r) p l q = accepted-not (rw p at h)
+    go Accepted p (stuck k) q = accepted-not (rw (p, q) at h)
     go Accepted p (laid d) q = record { good = p; draft = d; lays = q; plan = rw (p, q) }
 
 module _ (t : Table) (accepted : planned t .answer ≡ Accepted) where

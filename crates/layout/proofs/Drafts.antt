@@ -2,12 +2,12 @@
 use mathlib.Core.Path.{_≡_, refl, ap, _∙_}
 use mathlib.Core.Bool.{Bool, false, cond}
 use mathlib.Core.List.{List}
-use Prim.Native.Nat.{ℕ, zero, suc, _+_, _≤_, _<_}
+use Prim.Native.Nat.{ℕ, suc, _+_, _≤_, _<_}
 use native.Mathlib.Decide.{ℕ-discrete}
 use native.Mathlib.Numerals.{add-one}
 use native.Mathlib.Omega.{arith}
 use lib.Dec.{eqb}
-use lib.ListN.{length, getD, replicate, length-replicate}
+use lib.ListN.{length, length-replicate}
 use borrow.Author.Tests.{eq-eqb}
 use Rattle.tasks.proofs.Below.{sum-member, count-le}
 use Rattle.tasks.proofs.Padded.{padded-in}
@@ -16,6 +16,7 @@ use Rattle.tasks.specs.Tables.{noTask, checkedTable}
 use Rattle.tasks.specs.Tables as table
 use Rattle.tasks.specs.declared.Answer.the-variants.{Accepted}
 use Rattle.tasks.specs.declared.Table.{Table}
+use Rattle.tasks.proofs.Tabulate.{replicate-at}
 use Rattle.bounds.specs.Leaves.{Moderate}
 use Rattle.plans.specs.Pieces.{noPiece, taskOf, pieceOf, costs}
 use Rattle.plans.specs.declared.Piece.{Piece}
@@ -105,12 +106,6 @@ module _ (i need x : ℕ) (d : Draft) (D : Drafted i need x d) where
       clean = λ j h. put-past z (d .plan) j (omega arith) ∙ D .clean j (omega arith);
       laid = rw add-one L;
     }
-
--- a list of one entry over and over reads as it everywhere
-replicate-at : {A : Type 0} (n j : ℕ) (a : A) → getD (replicate n a) j a ≡ a
-replicate-at zero j a = refl
-replicate-at (suc n) zero a = refl
-replicate-at (suc n) (suc j) a = replicate-at n j a
 
 -- the start of a good table
 module _ (t : Table) (good : checkedTable t ≡ Accepted) where

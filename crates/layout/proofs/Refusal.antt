@@ -15,7 +15,7 @@ use Rattle.tasks.specs.declared.Task.{Task}
 use Rattle.tasks.specs.declared.TaskNo.{TaskNo}
 use Rattle.layout.specs.Layout.{start, place, Laying, laid, stuck, orStuck, thenPlace, layFirst, refused, planned}
 use Rattle.layout.specs.declared.Draft.{Draft}
-use Rattle.layout.proofs.Certified.{refused-accepted}
+use Rattle.tasks.proofs.Answers.{accepted-not}
 use Rattle.layout.proofs.Keeps.{laid-stuck}
 use Rattle.layout.proofs.Placing.{lay-stuck}
 
@@ -71,7 +71,7 @@ module _ (t : Table) (i : ℕ) where
     where
       go : (a : Answer) → checkedTable t ≡ a → (l : Laying) → layFirst (start t) (t .count) ≡ l → (checkedTable t ≡ Accepted) × Stuck (start t) (t .count) i
       go (Refused r) p l q = absurd (not-seven (t .cores) (t .count) (table.taskOf t) (taskNo i) (p ∙ (rw p at h)))
-      go Accepted p (laid d) q = refused-accepted (sym (rw (p, q) at h))
+      go Accepted p (laid d) q = accepted-not (sym (rw (p, q) at h))
       go Accepted p (stuck k) q =
           let e : taskNo k ≡ taskNo i = named-is (rw (p, q) at h) in
           (p, lay-fails (start t) (t .count) i (q ∙ ap (λ (n : TaskNo). stuck (n .0)) e))

@@ -9,6 +9,7 @@ use Rattle.tasks.specs.declared.Answer.{Answer}
 use Rattle.tasks.specs.declared.Answer.the-variants.{Accepted, Refused}
 use Rattle.tasks.specs.declared.Refusal.{Refusal}
 use Rattle.tasks.specs.declared.Refusal.the-variants.{NoPlanShape}
+use Rattle.tasks.proofs.Answers.{accepted-not}
 use Rattle.bounds.specs.Leaves.{Moderate}
 use Rattle.plans.specs.Pieces.{taskOf, pieceOf, earlier}
 use Rattle.shapes.specs.Shape.{checkedPlan}
@@ -16,9 +17,6 @@ use Rattle.plans.specs.declared.Plan.{Plan}
 use Rattle.shapes.proofs.InShape.{GoodPlan, accepted-plan, earlier-within, fits}
 use Rattle.bounds.proofs.Accepted.{plan-moderate}
 use Rattle.lending.specs.Adding.{askedOf, begun, beginOf}
-
-clashing : {A : Type 0} {r : Refusal} → _≡_ {A = Answer} (Refused r) Accepted → A
-clashing e = let z : _≡_ {A = ℕ} 0 1 = cc in absurd (omega arith)
 
 module _ (p : Plan) (q : ℕ) where
   pub asked-refused : (r : Refusal) → checkedPlan p ≡ Refused r → askedOf p q ≡ Refused r
@@ -45,7 +43,7 @@ module _ (p : Plan) (q : ℕ) where
       where
         go : (a : Answer) → checkedPlan p ≡ a → checkedPlan p ≡ Accepted
         go Accepted e = e
-        go (Refused r) e = clashing (sym (asked-refused r e) ∙ accepted)
+        go (Refused r) e = accepted-not (sym (asked-refused r e) ∙ accepted)
 
     pub asked-good : GoodPlan p
     asked-good = accepted-plan p asked-plan
@@ -58,7 +56,7 @@ module _ (p : Plan) (q : ℕ) where
       where
         go : (b : Bool) → ltb q (p .placed) ≡ b → q < p .placed
         go true e = ltb-true _ _ e
-        go false e = clashing (sym (asked-past asked-plan (ltb-false _ _ e)) ∙ accepted)
+        go false e = accepted-not (sym (asked-past asked-plan (ltb-false _ _ e)) ∙ accepted)
 
     -- what the earlier pieces cost is within the deadline
     pub spent-within : earlier (pieceOf p) q ≤ taskOf p (pieceOf p q .task .0) .deadline

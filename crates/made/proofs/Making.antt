@@ -13,7 +13,7 @@ use borrow.Author.Tests.{lt-ltb, le-ltb, eqb-false}
 use Rattle.tasks.specs.Below.{all, any}
 use Rattle.tasks.specs.declared.Task.{Task}
 use Rattle.tasks.proofs.Below.{all-each, all-make, any-same}
-use Rattle.tasks.proofs.Bools.{clash, either, not-second}
+use Rattle.tasks.proofs.Bools.{clash, either, not-second, and-true}
 use Rattle.plans.specs.Pieces.{noPiece, taskOf, pieceOf}
 use Rattle.plans.specs.declared.Piece.{Piece}
 use Rattle.plans.specs.declared.Plan.{Plan}
@@ -25,10 +25,6 @@ use Rattle.jobs.specs.declared.Runner.{Runner}
 use Rattle.jobs.specs.declared.Runner.the-variants.{Idle, Runs}
 use Rattle.jobs.proofs.Numbers.{once-no, named-no}
 use Rattle.made.specs.WellMade.{pieceExists, atNoPiece, jobWellMade, jobsWellMade, coreWellMade, coresWellMade}
-
-and-one : (a : Bool) → a && true ≡ a
-and-one true = refl
-and-one false = refl
 
 -- a count above a size reads as that size, where all past it pass
 pub all-read : (size n : ℕ) (f : ℕ → Bool) → ((j : ℕ) → size ≤ j → f j ≡ true) → all (min n size) f ≡ all n f
@@ -94,7 +90,7 @@ pub exists-read : (p : Plan) (i : ℕ) (j : Job) (here : Piece) (t placed : ℕ)
 exists-read p i j here t placed e q h k = rw (k, ← q, ← h) (go (decLt (j .piece) 128))
   where
     go : Dec (j .piece < 128) → ltb (j .piece) (p .placed) && ltb (j .piece) 128 && eqb (pieceOf p (min (j .piece) 127) .task .0) i && ltb (j .ran) (pieceOf p (min (j .piece) 127) .cost) ≡ pieceExists p i j
-    go (yes l) = let m : min (j .piece) 127 ≡ j .piece = omega arith in rw (m, lt-ltb (j .piece) 128 l, and-one (ltb (j .piece) (p .placed)))
+    go (yes l) = let m : min (j .piece) 127 ≡ j .piece = omega arith in rw (m, lt-ltb (j .piece) 128 l, and-true (ltb (j .piece) (p .placed)))
     go (no l) = let m : pieceOf p (j .piece) ≡ noPiece = List·getD-eq-default (p .pieces) noPiece (omega arith) in rw (m, le-ltb (j .piece) 128 (omega arith), not-second (ltb (j .piece) (p .placed)) {b = false} refl, le-ltb (j .ran) 0 (omega arith)) (sym (not-second (ltb (j .piece) (p .placed) && eqb 0 i) {b = false} refl))
 
 -- a job is as a well made state has it, for each phase

@@ -10,6 +10,7 @@ use Rattle.tasks.specs.declared.Answer.the-variants.{Accepted, Refused}
 use Rattle.tasks.specs.declared.Refusal.{Refusal}
 use Rattle.tasks.specs.declared.Refusal.the-variants.{NotRun, TooSoon, StillActive}
 use Rattle.tasks.specs.declared.TaskNo.{TaskNo}
+use Rattle.tasks.proofs.Answers.{accepted-not}
 use Rattle.shapes.specs.Shape.{checkedPlan}
 use Rattle.plans.specs.declared.Plan.{Plan}
 use Rattle.sets.specs.Refusing.{notRun, tooSoon, stillActive, lowest, judgedSets}
@@ -19,7 +20,7 @@ use Rattle.jobs.specs.Sets.{member}
 use Rattle.rules.specs.States.{wellMade}
 use Rattle.rules.specs.declared.State.{State}
 use Rattle.jobs.specs.declared.Tasks.{Tasks}
-use Rattle.rules.proofs.Checked.{accepted-not, both-accepted}
+use Rattle.rules.proofs.Checked.{both-accepted}
 use Rattle.dispatch.proofs.Checked.{Taken, taken}
 
 no-refusal : (b : Bool) (r : Refusal) (a : Answer) → cond b (Refused r) a ≡ Accepted → b ≡ false

@@ -8,6 +8,7 @@ use native.Mathlib.Omega.{arith}
 use lib.Dec.{ltb}
 use lib.ListN.{getD, replicate}
 use Rattle.tasks.proofs.Bools.{clash}
+use Rattle.tasks.proofs.Tabulate.{replicate-at}
 use Rattle.shapes.proofs.InShape.{GoodPlan, accepted-plan}
 use Rattle.plans.specs.Pieces.{pieceOf}
 use Rattle.plans.specs.declared.Plan.{Plan}
@@ -20,18 +21,19 @@ use Rattle.jobs.specs.declared.Job.{Job}
 use Rattle.jobs.specs.declared.Phase.{Phase}
 use Rattle.jobs.specs.declared.Phase.the-variants.{Never, Active, Ended}
 use Rattle.rules.specs.declared.State.{State}
+use Rattle.dispatch.proofs.Kept.{ready, next-last, next-past}
 use Rattle.promise.specs.Demand3.{OneCore, CoresRise}
 use Rattle.schedules.specs.Model.{Stage, never, active, ended, older, onward, finish, run}
 use Rattle.promise.specs.Requests.{Request, asked, isAccepted, after, tally, namedOn, releases}
 use Rattle.promise.specs.View.{stageOf, modelOf}
 use Rattle.promise.proofs.Join.{stood, named-stands}
-use Rattle.promise.proofs.Rules.{ready, ready-stage, next-stage, next-last, next-idle}
-use Rattle.promise.proofs.Runs.{Passes, stepped, by-answer, getD-all}
+use Rattle.promise.proofs.Rules.{ready-stage, next-stage, rightly}
+use Rattle.promise.proofs.Runs.{Passes, stepped, by-answer}
 use Rattle.promise.proofs.Sound.{next-piece}
 
 -- nothing is named in a refusal
 refused-names : {A : Type 0} (i x : ℕ) → names i (getD (replicate 16 noRun) x noRun .runner) ≡ true → A
-refused-names i x e = clash e (ap (λ (r : CoreRun). names i (r .runner)) (getD-all 16 x noRun))
+refused-names i x e = clash e (ap (λ (r : CoreRun). names i (r .runner)) (replicate-at 16 x noRun))
 
 module _ (p : Plan) (s : State) (q : Request) (ok : Passes p s q) where
   checked : GoodPlan p
@@ -39,15 +41,15 @@ module _ (p : Plan) (s : State) (q : Request) (ok : Passes p s q) where
 
   -- the state from which the runners are chosen
   abbrev before : State
-  before = ready p checked (q .finished) (q .released) s
+  before = ready p (q .finished) (q .released) s
 
   -- a task that an accepted tick names on a core is active at a piece there
   named-there : (i x : ℕ) → names i (lastOf (stepped p s q) x) ≡ true → (i < p .count) × (isActive (jobOf before i .phase) ≡ true) × (pieceAt p before i .core .0 ≡ x)
   named-there i x e = go (decLt x (p .cores))
     where
       go : Dec (x < p .cores) → (i < p .count) × (isActive (jobOf before i .phase) ≡ true) × (pieceAt p before i .core .0 ≡ x)
-      go (yes l) = named-stands p checked before (stood p checked (q .finished) (q .released) s ok) x i (rw (next-last p checked (q .finished) (q .released) s x l) at e)
-      go (no l) = clash e (ap (names i) (next-idle p checked (q .finished) (q .released) s x (omega arith)))
+      go (yes l) = named-stands p checked before (stood p checked (q .finished) (q .released) s ok) x i (rw (next-last p (rightly p checked) (q .finished) (q .released) s x l) at e)
+      go (no l) = clash e (ap (names i) (next-past p (rightly p checked) (q .finished) (q .released) s x (omega arith)))
 
 pub one-core : (p : Plan) → OneCore p
 one-core p s q i x y = by-answer p s q (λ t. names i (namedOn t x) ≡ true → names i (namedOn t y) ≡ true → x ≡ y)

@@ -31,10 +31,11 @@ use Rattle.jobs.specs.declared.Tasks.{Tasks}
 use Rattle.schedules.specs.Model as model
 use Rattle.schedules.specs.Model.{Stage, ended, at, May}
 use Rattle.schedules.specs.Moments.{held, goes, goesAt, finished, released, ticked, tick, Accepted, Step}
+use Rattle.dispatch.proofs.Kept.{ready, next-last}
 use Rattle.promise.specs.View.{stageOf, ranLast, momentOf, modelOf}
 use Rattle.promise.proofs.Accepting.{Passed}
 use Rattle.promise.proofs.Choice.{Picked, Picks, picks-named, highest-picks}
-use Rattle.promise.proofs.Rules.{Standing, ready, ready-stood, finish-stage, finish-stood, ready-stage, next-stage, next-last}
+use Rattle.promise.proofs.Rules.{Standing, ready-stood, finish-stage, finish-stood, ready-stage, next-stage, rightly}
 use Rattle.promise.proofs.Sound.{piece-fits}
 
 -- two tests that pass together are the same
@@ -152,10 +153,10 @@ module _ (p : Plan) (c : GoodPlan p) (fs rs : Tasks) (s : State) (ok : Passed p 
   abbrev pub stages : ℕ → Stage
   stages = released (modelOf p) (member rs) (finished (modelOf p) (member fs) (momentOf p s .stage))
 
-  pub stood : (i : ℕ) → i < p .count → isActive (jobOf (ready p c fs rs s) i .phase) ≡ true → Standing p i (jobOf (ready p c fs rs s) i)
+  pub stood : (i : ℕ) → i < p .count → isActive (jobOf (ready p fs rs s) i .phase) ≡ true → Standing p i (jobOf (ready p fs rs s) i)
   stood i h = ready-stood p c fs rs s i (ok .made) h
 
-  same : (i : ℕ) → i < p .count → stages i ≡ stageOf (jobOf (ready p c fs rs s) i)
+  same : (i : ℕ) → i < p .count → stages i ≡ stageOf (jobOf (ready p fs rs s) i)
   unfolding released finished
   same i h = sym (ready-stage p c fs rs s i h)
 
@@ -184,16 +185,16 @@ module _ (p : Plan) (c : GoodPlan p) (fs rs : Tasks) (s : State) (ok : Passed p 
   -- the tasks named in the answer are those that ran
   pub named-goes : (i : ℕ) → i < p .count → ranLast p (nextState p fs rs s) i ≡ goes (modelOf p) stages i
   named-goes i h =
-      any-same (p .cores) _ _ (λ x l. ap (names i) (next-last p c fs rs s x l))
-      ∙ named-runs p c (ready p c fs rs s) stood i h
-      ∙ runs-goes p c (ready p c fs rs s) stood stages same i h
+      any-same (p .cores) _ _ (λ x l. ap (names i) (next-last p (rightly p c) fs rs s x l))
+      ∙ named-runs p c (ready p fs rs s) stood i h
+      ∙ runs-goes p c (ready p fs rs s) stood stages same i h
 
   pub tick-step : Step (modelOf p) (member fs) (member rs) (momentOf p s) (momentOf p (nextState p fs rs s))
   unfolding tick ticked
   tick-step = record {
     accepted = accepts;
     agree = record {
-      stages = λ i h. next-stage p c fs rs s i h ∙ rw (runs-goes p c (ready p c fs rs s) stood stages same i h, same i h);
+      stages = λ i h. next-stage p c fs rs s i h ∙ rw (runs-goes p c (ready p fs rs s) stood stages same i h, same i h);
       runs = named-goes;
     };
   }

@@ -8,23 +8,24 @@ use lib.Dec.{leb, ltb, eqb}
 use borrow.Author.Tests.{ltb-true, eqb-true, leb-true}
 use Rattle.tasks.proofs.Below.{all-each}
 use Rattle.tasks.proofs.Bools.{both, clash}
-use Rattle.tasks.proofs.Padded.{padded-in, padded-out}
-use Rattle.shapes.proofs.InShape.{GoodPlan}
+use Rattle.shapes.proofs.InShape.{GoodPlan, plan-accepted}
 use Rattle.plans.specs.Pieces.{taskOf, pieceOf}
 use Rattle.shapes.specs.Shape.{isLast}
 use Rattle.plans.specs.declared.Plan.{Plan}
-use Rattle.jobs.specs.Jobs.{noJob, noRun, isActive}
-use Rattle.rules.specs.States.{jobOf, lastOf, wellMade}
-use Rattle.rules.specs.Rules.{eachJob, endedJob, finishedJob, turnsLate, markedJob, firstPiece, releasedJob, runsNow, ranJob, agedJob, chosen, highest, finish, markLate, release, run, age, countPreempted}
+use Rattle.jobs.specs.Jobs.{isActive}
+use Rattle.rules.specs.States.{jobOf, wellMade}
+use Rattle.rules.specs.Rules.{endedJob, finishedJob, turnsLate, markedJob, firstPiece, releasedJob, runsNow, ranJob, agedJob, finish, markLate, release, run, age}
 use Rattle.jobs.specs.Sets.{member}
 use Rattle.rules.specs.Advance.{nextState}
 use Rattle.made.specs.WellMade.{ageFits, pieceExists, jobWellMade}
 use Rattle.jobs.specs.declared.Job.{Job}
 use Rattle.jobs.specs.declared.Phase.{Phase}
 use Rattle.jobs.specs.declared.Phase.the-variants.{Never, Active, Ended}
-use Rattle.jobs.specs.declared.Runner.the-variants.{Idle}
 use Rattle.rules.specs.declared.State.{State}
 use Rattle.jobs.specs.declared.Tasks.{Tasks}
+use Rattle.rules.proofs.Checked.{Good, good}
+use Rattle.rules.proofs.Steps.{finish-in, mark-in, release-in}
+use Rattle.dispatch.proofs.Kept.{ready, next-job}
 use Rattle.schedules.specs.Model as model
 use Rattle.promise.specs.View.{stageOf, modelOf}
 use Rattle.promise.proofs.Sound.{first-piece}
@@ -126,49 +127,28 @@ released-stood p c rs i j l h = go (member rs i)
 
 -- ---- the jobs and cores of the states between the rules
 module _ (p : Plan) (c : GoodPlan p) where
-  each-job : (f : ℕ → Job → Job) (s : State) (i : ℕ) → i < p .count → jobOf (eachJob p f s) i ≡ f i (jobOf s i)
-  unfolding eachJob
-  each-job f s i h = padded-in 64 noJob (p .count) (λ i. f i (jobOf s i)) i h (omega (arith, c .table .tasks .1))
-
-  pub finish-job : (fs : Tasks) (s : State) (i : ℕ) → i < p .count → jobOf (finish p fs s) i ≡ finishedJob fs i (jobOf s i)
-  unfolding finish
-  finish-job fs s i h = each-job (finishedJob fs) s i h
+  -- as the laws of the rules see it
+  pub rightly : Good p
+  rightly = good p (plan-accepted p c)
 
   pub finish-stood : (fs : Tasks) (s : State) (i : ℕ) → wellMade p s ≡ true → i < p .count → Stood p i (jobOf (finish p fs s) i)
-  finish-stood fs s i w h = rw (finish-job fs s i h) (finished-stood p fs i (jobOf s i) (made-job p s i w h))
+  finish-stood fs s i w h = rw (finish-in p rightly s i h fs) (finished-stood p fs i (jobOf s i) (made-job p s i w h))
 
   -- rule 1 as a stage
   pub finish-stage : (fs : Tasks) (s : State) (i : ℕ) → i < p .count → stageOf (jobOf (finish p fs s) i) ≡ cond (member fs i) (model.finish (stageOf (jobOf s i))) (stageOf (jobOf s i))
-  finish-stage fs s i h = ap stageOf (finish-job fs s i h) ∙ finished-stage fs i (jobOf s i)
+  finish-stage fs s i h = ap stageOf (finish-in p rightly s i h fs) ∙ finished-stage fs i (jobOf s i)
 
   module _ (fs rs : Tasks) (s : State) where
-    -- the state from which the runners are chosen
-    abbrev pub ready : State
-    ready = release p rs (markLate p (finish p fs s))
+    ready-job : (i : ℕ) → i < p .count → jobOf (ready p fs rs s) i ≡ releasedJob p rs i (markedJob p i (finishedJob fs i (jobOf s i)))
+    ready-job i h = release-in p rightly (markLate p (finish p fs s)) i h rs ∙ ap (releasedJob p rs i) (mark-in p rightly (finish p fs s) i h ∙ ap (markedJob p i) (finish-in p rightly s i h fs))
 
-    ready-job : (i : ℕ) → i < p .count → jobOf ready i ≡ releasedJob p rs i (markedJob p i (finishedJob fs i (jobOf s i)))
-    unfolding release markLate
-    ready-job i h = each-job (releasedJob p rs) (markLate p (finish p fs s)) i h ∙ ap (releasedJob p rs i) (each-job (markedJob p) (finish p fs s) i h ∙ ap (markedJob p i) (finish-job fs s i h))
-
-    pub ready-stood : (i : ℕ) → wellMade p s ≡ true → i < p .count → Stood p i (jobOf ready i)
+    pub ready-stood : (i : ℕ) → wellMade p s ≡ true → i < p .count → Stood p i (jobOf (ready p fs rs s) i)
     ready-stood i w h = rw (ready-job i h) (released-stood p c rs i _ h (marked-stood p i _ (finished-stood p fs i _ (made-job p s i w h))))
 
-    pub next-job : (i : ℕ) → i < p .count → jobOf (nextState p fs rs s) i ≡ agedJob p i (cond (runsNow p ready i) (ranJob p (jobOf ready i)) (jobOf ready i))
-    unfolding nextState age countPreempted run
-    next-job i h = each-job (agedJob p) _ i h ∙ ap (agedJob p i) (each-job (λ i j. cond (runsNow p ready i) (ranJob p j) j) ready i h)
-
-    pub next-last : (x : ℕ) → x < p .cores → lastOf (nextState p fs rs s) x ≡ highest p ready x (p .count)
-    unfolding nextState age countPreempted run eachJob
-    next-last x h = ap (λ r. r .runner) (padded-in 16 noRun (p .cores) (chosen p ready) x h (omega (arith, c .table .cores .1)))
-
-    pub next-idle : (x : ℕ) → p .cores ≤ x → lastOf (nextState p fs rs s) x ≡ Idle
-    unfolding nextState age countPreempted run eachJob
-    next-idle x h = ap (λ r. r .runner) (padded-out 16 noRun (p .cores) (chosen p ready) x h)
-
     -- rules 1 to 3 as stages
-    pub ready-stage : (i : ℕ) → i < p .count → stageOf (jobOf ready i) ≡ cond (member rs i) (model.release (modelOf p) i) (cond (member fs i) (model.finish (stageOf (jobOf s i))) (stageOf (jobOf s i)))
+    pub ready-stage : (i : ℕ) → i < p .count → stageOf (jobOf (ready p fs rs s) i) ≡ cond (member rs i) (model.release (modelOf p) i) (cond (member fs i) (model.finish (stageOf (jobOf s i))) (stageOf (jobOf s i)))
     ready-stage i h = ap stageOf (ready-job i h) ∙ released-stage p rs i _ ∙ ap (cond (member rs i) (model.release (modelOf p) i)) (marked-stage p i (finishedJob fs i (jobOf s i)) ∙ finished-stage fs i (jobOf s i))
 
     -- rules 4 to 6 as stages
-    pub next-stage : (i : ℕ) → i < p .count → stageOf (jobOf (nextState p fs rs s) i) ≡ model.run (modelOf p) i (runsNow p ready i) (stageOf (jobOf ready i))
-    next-stage i h = ap stageOf (next-job i h) ∙ run-stage p i (runsNow p ready i) (jobOf ready i) (λ e. both {a = isActive (jobOf ready i .phase)} e .0)
+    pub next-stage : (i : ℕ) → i < p .count → stageOf (jobOf (nextState p fs rs s) i) ≡ model.run (modelOf p) i (runsNow p (ready p fs rs s) i) (stageOf (jobOf (ready p fs rs s) i))
+    next-stage i h = ap stageOf (next-job p rightly fs rs s i h) ∙ run-stage p i (runsNow p (ready p fs rs s) i) (jobOf (ready p fs rs s) i) (λ e. both {a = isActive (jobOf (ready p fs rs s) i .phase)} e .0)

@@ -2,10 +2,9 @@
 use mathlib.Core.Path.{_≡_, refl, sym, ap, _∙_}
 use mathlib.Core.Bool.{true, false, _&&_, cond}
 use mathlib.Core.List.{List, [], _∷_, _++_}
-use Prim.Native.Nat.{ℕ, zero, suc, _+_, _≤_, _<_}
+use Prim.Native.Nat.{ℕ, suc, _+_, _≤_, _<_}
 use native.Mathlib.Nat.{add-zero}
 use native.Mathlib.Omega.{arith}
-use lib.ListN.{getD, replicate}
 use borrow.Author.Tests.{ne-eqb}
 use Rattle.tasks.proofs.Below.{any-none, sum-none}
 use Rattle.tasks.proofs.Bools.{clash, not-first}
@@ -13,6 +12,7 @@ use Rattle.tasks.specs.Below.{any, count}
 use Rattle.tasks.specs.declared.Answer.{Answer}
 use Rattle.tasks.specs.declared.Answer.the-variants.{Accepted, Refused}
 use Rattle.tasks.specs.declared.Refusal.{Refusal}
+use Rattle.tasks.proofs.Tabulate.{replicate-at}
 use Rattle.shapes.proofs.InShape.{GoodPlan}
 use Rattle.plans.specs.Pieces.{taskOf, pieceOf}
 use Rattle.plans.specs.declared.Plan.{Plan}
@@ -75,16 +75,10 @@ after-keeps p P h [] s v = v
 after-keeps p P h (q ∷ qs) s v = after-keeps p P h qs (asked p s q .state) (by-answer p s q (λ t. P (t .state)) (λ ok. h s q ok v) (λ r. v))
 
 -- ---- the states that requests lead to from the fresh one
-pub getD-all : {A : Type 0} (n i : ℕ) (a : A) → getD (replicate n a) i a ≡ a
-getD-all zero zero a = refl
-getD-all zero (suc i) a = refl
-getD-all (suc n) zero a = refl
-getD-all (suc n) (suc i) a = getD-all n i a
-
 module _ (p : Plan) (c : GoodPlan p) where
   fresh-reached : Reached (modelOf p) (momentOf p freshState)
   unfolding fresh
-  fresh-reached = start (record { stages = λ i h. ap stageOf (getD-all 64 i noJob); runs = λ i h. any-none (p .cores) _ (λ x l. ap (λ (r : CoreRun). names i (r .runner)) (getD-all 16 x noRun)) })
+  fresh-reached = start (record { stages = λ i h. ap stageOf (replicate-at 64 i noJob); runs = λ i h. any-none (p .cores) _ (λ x l. ap (λ (r : CoreRun). names i (r .runner)) (replicate-at 16 x noRun)) })
 
   reach-on : (qs : List Request) (s : State) → Reached (modelOf p) (momentOf p s) → Reached (modelOf p) (momentOf p (after p s qs))
   reach-on = after-keeps p (λ s. Reached (modelOf p) (momentOf p s)) (λ s q ok r. next _ _ r (tick-step p c (q .finished) (q .released) s ok))

@@ -9,12 +9,11 @@ use lib.Dec.{ltb}
 use lib.ListN.{length, getD, length-append, List·getD-append}
 use Rattle.tasks.specs.Below.{padded}
 use Rattle.tasks.specs.Tables.{taskNo}
-use Rattle.tasks.specs.declared.Answer.{Answer}
 use Rattle.tasks.specs.declared.Answer.the-variants.{Accepted, Refused}
 use Rattle.tasks.specs.declared.Place.{Place}
-use Rattle.tasks.specs.declared.Refusal.{Refusal}
 use Rattle.tasks.specs.declared.Refusal.the-variants.{CutShort, WrongLength}
 use Rattle.tasks.proofs.Padded.{padded-same}
+use Rattle.tasks.proofs.Answers.{accepted-not}
 use Rattle.requests.specs.Requests.{finishes, releases, tasksAt, finishedIn, releasedIn, requestSize, requestAnswer}
 
 -- both counts are at most 64, and all bytes are there
@@ -27,18 +26,11 @@ pub size-is : (s : List ℕ) → requestSize s ≡ 2 + finishes s + releases s
 unfolding requestSize
 size-is s = refl
 
-abbrev refuses : Answer → ℕ
-refuses (Refused x) = 1
-refuses Accepted = 0
-
-not-accepted : {A : Type 0} (x : Refusal) → Refused x ≡ Accepted → A
-not-accepted x e = let z : _≡_ {A = ℕ} 1 0 = ap refuses e in absurd (omega arith)
-
 answered : (s : List ℕ) (x : Place) (a b c : Bool) → ltb 64 (finishes s) ≡ a → ltb 64 (releases s) ≡ b → ltb (length s) (requestSize s) ≡ c
     → cond (a || b) (Refused (WrongLength x)) (cond c (Refused (CutShort x)) Accepted) ≡ Accepted → Good s
-answered s x true b c p q r h = not-accepted _ h
-answered s x false true c p q r h = not-accepted _ h
-answered s x false false true p q r h = not-accepted _ h
+answered s x true b c p q r h = accepted-not h
+answered s x false true c p q r h = accepted-not h
+answered s x false false true p q r h = accepted-not h
 answered s x false false false p q r h = record { finishing = ltb-false _ _ p; releasing = ltb-false _ _ q; whole = ltb-false _ _ r }
 
 pub accepted-good : (s : List ℕ) (x : Place) → requestAnswer s x ≡ Accepted → Good s

@@ -14,6 +14,7 @@ use Rattle.tasks.specs.declared.Refusal.{Refusal}
 use Rattle.tasks.specs.declared.Refusal.the-variants.{NotWellMade}
 use Rattle.tasks.proofs.Bools.{both}
 use Rattle.tasks.proofs.Tables.{Ranges}
+use Rattle.tasks.proofs.Answers.{accepted-not}
 use Rattle.plans.specs.Pieces.{taskOf, pieceOf}
 use Rattle.shapes.specs.Shape.{isShare, inOrder, checkedPlan}
 use Rattle.plans.specs.declared.Plan.{Plan}
@@ -26,9 +27,6 @@ use Rattle.rules.specs.States.{wellMade}
 use Rattle.rules.specs.declared.State.{State}
 
 -- ---- accepted is neither refused first nor then
-pub accepted-not : {A : Type 0} {r : Refusal} → Refused r ≡ Accepted → A
-accepted-not h = let z : _≡_ {A = ℕ} 0 1 = cc in absurd (omega arith)
-
 pub both-accepted : (a b : Answer) → andThen a b ≡ Accepted → (a ≡ Accepted) × (b ≡ Accepted)
 both-accepted Accepted b h = (refl, h)
 both-accepted (Refused r) b h = accepted-not h

@@ -8,7 +8,7 @@ use native.Mathlib.Omega.{arith}
 use lib.Dec.{ltb, eqb}
 use lib.ListN.{getD, set, replicate}
 use borrow.Author.Tests.{ltb-true, lt-ltb, eqb-true, eq-eqb, ne-eqb, not-false, not-true}
-use Rattle.tasks.proofs.Bools.{both, not-second}
+use Rattle.tasks.proofs.Bools.{both, not-second, not-twice}
 use Rattle.tasks.proofs.Tabulate.{tabulate-start, tabulate-turn}
 use Rattle.tasks.specs.Below.{padded}
 use Rattle.tasks.specs.Tables.{taskNo}
@@ -19,7 +19,6 @@ use Rattle.shapes.specs.Shape.{isLast}
 use Rattle.plans.specs.declared.Piece.{Piece}
 use Rattle.plans.specs.declared.Plan.{Plan}
 use Rattle.rules.proofs.Highest.{runner-stands}
-use Rattle.rules.proofs.Reading.{twice}
 use Rattle.rules.proofs.Walks.{padded-has}
 use Rattle.rules.specs.Choice.{noStand, standOf, StandsOf, found}
 use Rattle.jobs.specs.Jobs.{noRun, isActive, phaseNo, isIdle, runnerNo}
@@ -82,7 +81,7 @@ stand-made p s i t n more h a l = rw (a, active-no, l, h)
 -- what is read of a job and of its core says whether it runs, and makes of it what rules 4 and 5 do
 pub ran-turn : (p : Plan) (s : State) (i : ℕ) (j : Job) (st : Stand) (core : CoreRun) (n : ℕ) (r : Job) → i < 256 → j ≡ jobOf s i → st ≡ standOf p s i → core ≡ chosen p s (st .piece .core .0) → n ≡ runnerNo (core .runner)
     → (pieceOf p (j .piece) ≡ st .piece → isLast (pieceOf p) (p .placed) (j .piece) ≡ not (st .more) → r ≡ cond (st .active && eqb n i) (ranJob p j) j) → r ≡ cond (runsNow p s i) (ranJob p j) j
-ran-turn p s i j st core n r b e q h w f = f (rw (e, q)) (rw (e, q) (twice _)) ∙ rw (w, named-no (core .runner) i b, h, q)
+ran-turn p s i j st core n r b e q h w f = f (rw (e, q)) (rw (e, q) (sym (not-twice _))) ∙ rw (w, named-no (core .runner) i b, h, q)
 
 -- a piece that is not its task's last has one after it
 pub not-last : (pc : ℕ → Piece) (n j : ℕ) → isLast pc n j ≡ false → suc j < n

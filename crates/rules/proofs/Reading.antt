@@ -1,5 +1,5 @@
 -- What the rules' walks make of a job or a core, told of what is read of it.
-use mathlib.Core.Path.{_≡_, refl}
+use mathlib.Core.Path.{_≡_, refl, sym}
 use mathlib.Core.Bool.{Bool, true, false, not, _&&_, _||_, cond}
 use mathlib.Core.List.{List}
 use Prim.Native.Nat.{ℕ, suc, _+_, _≤_, _<_, min}
@@ -11,6 +11,7 @@ use lib.ListN.{length, getD, List·getD-eq-default}
 use borrow.Author.Tests.{lt-ltb, le-ltb}
 use Rattle.tasks.specs.Tables.{noTask}
 use Rattle.tasks.specs.declared.Task.{Task}
+use Rattle.tasks.proofs.Bools.{not-twice}
 use Rattle.plans.specs.Pieces.{taskOf, pieceOf}
 use Rattle.shapes.specs.Shape.{isLast}
 use Rattle.plans.specs.declared.Plan.{Plan}
@@ -23,10 +24,6 @@ use Rattle.jobs.specs.declared.Job.{Job}
 use Rattle.jobs.specs.declared.Runner.{Runner}
 use Rattle.jobs.specs.declared.Runner.the-variants.{Idle, Runs}
 use Rattle.rules.specs.declared.State.{State}
-
-pub twice : (b : Bool) → b ≡ not (not b)
-twice true = refl
-twice false = refl
 
 -- rule 2, which reads the tasks of a plan alone
 module _ (tasks : List Task) (i : ℕ) (j : Job) where
@@ -77,5 +74,5 @@ unfolding isLast
 more-read p place k t u b e q h = go (decLt (place + 1) (p .placed))
   where
     go : Dec (place + 1 < p .placed) → ltb (place + 1) (p .placed) && eqb t u ≡ not (not (ltb (suc place) (p .placed) && eqb (pieceOf p place .task .0) (pieceOf p (suc place) .task .0)))
-    go (yes l) = let m : k ≡ suc place = omega arith in rw (add-one, q, h, m) (twice _)
+    go (yes l) = let m : k ≡ suc place = omega arith in rw (add-one, q, h, m) (sym (not-twice _))
     go (no l) = let z : suc place ≡ place + 1 = omega arith in rw (z, le-ltb (place + 1) (p .placed) (omega arith))

@@ -15,7 +15,7 @@ use Rattle.tasks.specs.declared.Answer.the-variants.{Accepted, Refused}
 use Rattle.tasks.specs.declared.Refusal.{Refusal}
 use Rattle.tasks.specs.declared.TaskNo.{TaskNo}
 use Rattle.tasks.proofs.Below.{Found, any-found, any-make, any-each, any-more, any-same, any-none, first-holds, first-none, first-before, first-is, first-same}
-use Rattle.tasks.proofs.Bools.{clash, either, not-second}
+use Rattle.tasks.proofs.Bools.{clash, either, not-second, and-true}
 use Rattle.tasks.proofs.Padded.{tabulate-at, padded-length, padded-in}
 use Rattle.tasks.proofs.Tabulate.{tabulate-turn}
 use Rattle.plans.specs.Pieces.{taskOf}
@@ -34,10 +34,6 @@ use Rattle.jobs.specs.declared.Tasks.{Tasks}
 use Rattle.rules.proofs.Steps.{finish-out}
 use Rattle.jobs.proofs.Numbers.{active-no, once-no, named-no}
 use Rattle.jobs.proofs.Walks.{or-none, or-one}
-
-and-one : (a : Bool) → a && true ≡ a
-and-one true = refl
-and-one false = refl
 
 not-below : (n t : ℕ) → leb n t ≡ not (ltb t n)
 not-below n t = go (decLt t n)
@@ -78,7 +74,7 @@ module _ (count : ℕ) (last : List CoreRun) where
   pub run-more : (xs : List Bool) (x t : ℕ) → xs ≡ tabulate 257 (notRunOn x) → t ≡ ranOn x → t < 257 → set xs t (leb count t) ≡ tabulate 257 (notRunOn (x + 1))
   run-more xs x t e q l =
       tabulate-turn 257 (notRunOn x) (notRunOn (x + 1)) xs t (leb count t) e l
-      (rw (any-more, ← or-one (any x (λ y. eqb (ranOn y) t)) (eq-eqb (ranOn x) t (sym q)), and-one) (not-below count t))
+      (rw (any-more, ← or-one (any x (λ y. eqb (ranOn y) t)) (eq-eqb (ranOn x) t (sym q)), and-true) (not-below count t))
       (λ i d. rw any-more (ap (λ (z : Bool). not (ltb i count && z)) (or-none (any x (λ y. eqb (ranOn y) i)) (ne-eqb (ranOn x) i (λ b. d (sym b ∙ sym q))))))
 
   pub run-read : (p : Plan) (s : State) (xs : List Bool) → length last ≡ 16 → p .count ≡ count → s .last ≡ last → xs ≡ tabulate 257 (notRunOn (min (p .cores) 16)) → (t : ℕ) → t < 256 → getD xs t false ≡ notRun p s t
@@ -102,7 +98,7 @@ active-job : (h : Phase) (m : Bool) (late : Bool) (piece age ran d : ℕ) → le
 active-job Never true late piece age ran d = refl
 active-job Never false late piece age ran d = refl
 active-job Active true late piece age ran d = not-second (eqb age d) {b = false} refl
-active-job Active false late piece age ran d = and-one (eqb age d)
+active-job Active false late piece age ran d = and-true (eqb age d)
 active-job Ended true late piece age ran d = refl
 active-job Ended false late piece age ran d = refl
 

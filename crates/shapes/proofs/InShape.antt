@@ -11,13 +11,13 @@ use borrow.Author.Tests.{eq-eqb, eqb-true, ltb-true, leb-true, not-false}
 use Rattle.tasks.proofs.Below.{all-each, any-make, first-holds, first-le, sum-up, sum-none}
 use Rattle.tasks.proofs.Bools.{both}
 use Rattle.tasks.specs.Below.{any, first}
-use Rattle.tasks.proofs.Tables.{GoodTable, accepted-good}
+use Rattle.tasks.proofs.Tables.{GoodTable, accepted-good, good-accepted}
 use Rattle.tasks.specs.Tables.{checkedTasks}
 use Rattle.tasks.specs.declared.Answer.{Answer}
 use Rattle.tasks.specs.declared.Answer.the-variants.{Accepted, Refused}
-use Rattle.tasks.specs.declared.Refusal.{Refusal}
 use Rattle.tasks.specs.declared.Task.{Task}
-use Rattle.shapes.proofs.Shaped.{Fits, fits-say, follows-says, tasks-refused, shape-refused}
+use Rattle.tasks.proofs.Answers.{accepted-not}
+use Rattle.shapes.proofs.Shaped.{Fits, fits-say, follows-says, tasks-refused, shape-refused, shape-accepted}
 use Rattle.plans.proofs.Costs.{costs-own}
 use Rattle.plans.specs.Pieces.{taskOf, pieceOf, costs, earlier}
 use Rattle.shapes.specs.Shape.{sameTask, inOrder, isLast, pieceFits, shape, checkedPlan}
@@ -130,10 +130,10 @@ pub accepted-plan : (p : Plan) → checkedPlan p ≡ Accepted → GoodPlan p
 unfolding checkedPlan
 accepted-plan p h = go _ _ refl refl
   where
-    clashing : {A : Type 0} {r : Refusal} → _≡_ {A = Answer} (Refused r) Accepted → A
-    clashing e = let z : _≡_ {A = ℕ} 0 1 = cc in absurd (omega arith)
-
     go : (a : Answer) (b : Bool) → checkedTasks (p .cores) (p .count) (taskOf p) ≡ a → shape (p .cores) (p .count) (taskOf p) (pieceOf p) (p .placed) ≡ b → GoodPlan p
-    go (Refused r) b e f = clashing (sym (tasks-refused p r e) ∙ h)
-    go Accepted false e f = clashing (sym (shape-refused p e f) ∙ h)
+    go (Refused r) b e f = accepted-not (sym (tasks-refused p r e) ∙ h)
+    go Accepted false e f = accepted-not (sym (shape-refused p e f) ∙ h)
     go Accepted true e f = record { table = accepted-good _ _ _ e; shaped = f }
+
+pub plan-accepted : (p : Plan) → GoodPlan p → checkedPlan p ≡ Accepted
+plan-accepted p g = shape-accepted p (good-accepted _ _ _ (g .table)) (g .shaped)

@@ -51,7 +51,7 @@ module _ (pc qc : ℕ → Piece) (n : ℕ) (same : (j : ℕ) → j < n → pc j 
         go (yes b) = rw (order-same j l, last-same j l, same j l, costs-same (qc j .task .0) (suc j) l, tasks (qc j .task .0) b)
         go (no b) = rw (same j l, le-ltb (qc j .task .0) count (omega arith))
 
-    shape-same : shape m count ts pc n ≡ shape m count us qc n
+    pub shape-same : shape m count ts pc n ≡ shape m count us qc n
     unfolding shape
     shape-same = go (decLt 0 n)
       where

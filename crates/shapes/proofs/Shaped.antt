@@ -10,7 +10,7 @@ use native.Mathlib.Omega.{arith}
 use lib.Dec.{leb, ltb, eqb}
 use borrow.Author.Tests.{eq-eqb, ne-eqb, eqb-true, lt-ltb, le-ltb, ltb-true, le-leb, leb-true}
 use Rattle.tasks.proofs.Below.{sum-none}
-use Rattle.tasks.proofs.Bools.{clash, both, not-first, not-second, one-of}
+use Rattle.tasks.proofs.Bools.{clash, both, not-first, not-second, one-of, or-false, not-twice}
 use Rattle.tasks.specs.Tables.{checkedTasks}
 use Rattle.tasks.specs.declared.Answer.the-variants.{Accepted, Refused}
 use Rattle.tasks.specs.declared.Refusal.{Refusal}
@@ -21,14 +21,6 @@ use Rattle.plans.specs.Pieces.{taskOf, pieceOf, costs}
 use Rattle.shapes.specs.Shape.{isShare, sameTask, follows, inOrder, isLast, pieceFits, shape, checkedPlan}
 use Rattle.plans.specs.declared.Piece.{Piece}
 use Rattle.plans.specs.declared.Plan.{Plan}
-
-or-none : (a : Bool) → a || false ≡ a
-or-none true = refl
-or-none false = refl
-
-not-twice : (a : Bool) → not (not a) ≡ a
-not-twice true = refl
-not-twice false = refl
 
 -- a second test matters only where the first passes
 pub where-so : (a : Bool) {b c : Bool} → (a ≡ true → b ≡ c) → a && b ≡ a && c
@@ -59,7 +51,7 @@ follows-says a b h = go (one-of {a = eqb (b .task .0) (a .task .0 + 1)} h)
 -- whether piece j is in order, by whether it is the first
 pub order-read : (pc : ℕ → Piece) (j : ℕ) → inOrder pc j ≡ (eqb j 0 && eqb (pc j .task .0) 0) || (ltb 0 j && follows (pc (j - 1)) (pc j))
 unfolding inOrder
-order-read pc zero = sym (or-none _)
+order-read pc zero = sym (or-false _)
 order-read pc (suc j) =
     let e : suc j - 1 ≡ j = omega arith in
     rw (ne-eqb (suc j) 0 (λ z. omega arith), lt-ltb 0 (suc j) (omega arith), e)

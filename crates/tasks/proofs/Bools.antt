@@ -1,6 +1,6 @@
 -- What a test says.
 use mathlib.Core.Path.{_≡_, refl}
-use mathlib.Core.Bool.{Bool, true, false, _&&_, _||_}
+use mathlib.Core.Bool.{Bool, true, false, not, _&&_, _||_}
 use mathlib.Core.Logic.{_⊎_, inl, inr}
 use Prim.Native.Nat.{ℕ}
 use native.Mathlib.Omega.{arith}
@@ -29,6 +29,10 @@ pub not-second : (a : Bool) {b : Bool} → b ≡ false → a && b ≡ false
 not-second true h = h
 not-second false h = refl
 
+pub and-true : (a : Bool) → a && true ≡ a
+and-true true = refl
+and-true false = refl
+
 -- the parts of a disjunction
 pub one-of : {a b : Bool} → a || b ≡ true → (a ≡ true) ⊎ (b ≡ true)
 one-of {a = true} {b} h = inl refl
@@ -44,3 +48,11 @@ right-one false h = h
 pub neither : {a b : Bool} → a || b ≡ false → (a ≡ false) × (b ≡ false)
 neither {a = true} {b} h = clash refl h
 neither {a = false} {b} h = (refl, h)
+
+pub or-false : (a : Bool) → a || false ≡ a
+or-false true = refl
+or-false false = refl
+
+pub not-twice : (a : Bool) → not (not a) ≡ a
+not-twice true = refl
+not-twice false = refl

@@ -1,6 +1,7 @@
 pub mod Bools
 pub mod Below
 pub mod Padded
+pub mod Answers
 pub mod Tables
 pub mod Places
 pub mod Tabulate

@@ -6,14 +6,13 @@ use lib.Dec.{leb}
 use native.Mathlib.Omega.{arith}
 use borrow.Author.Tests.{le-leb, leb-true, not-true, not-false}
 use Rattle.tasks.proofs.Below.{any-make, any-each, any-none, first-holds, first-before, first-is}
-use Rattle.tasks.proofs.Bools.{both}
+use Rattle.tasks.proofs.Bools.{both, both-make}
 use Rattle.tasks.specs.Below.{any, first}
 use Rattle.tasks.specs.Tables.{taskNo, coresFit, tasksFit, valuesFit, checkedTasks}
-use Rattle.tasks.specs.declared.Answer.{Answer}
-use Rattle.tasks.specs.declared.Refusal.{Refusal}
 use Rattle.tasks.specs.declared.Answer.the-variants.{Accepted, Refused}
 use Rattle.tasks.specs.declared.Refusal.the-variants.{CoresGiven, TasksGiven, ValuesOf}
 use Rattle.tasks.specs.declared.Task.{Task}
+use Rattle.tasks.proofs.Answers.{accepted-not}
 
 -- 1 ≤ c ≤ d ≤ p ≤ 1,000,000, as orders
 pub record Ranges (t : Task) : Type 0 where
@@ -68,15 +67,12 @@ accepted-good m n ts h = go _ _ _ refl refl refl
     bad : ℕ → Bool
     bad i = not (valuesFit (ts i))
 
-    clashing : {A : Type 0} {r : Refusal} → _≡_ {A = Answer} (Refused r) Accepted → A
-    clashing e = let z : _≡_ {A = ℕ} 0 1 = cc in absurd (omega arith)
-
     go : (a b c : Bool) → coresFit m ≡ a → tasksFit n ≡ b → any n bad ≡ c → GoodTable m n ts
-    go false b c p q r = clashing (sym (bad-cores m n ts p) ∙ h)
-    go true false c p q r = clashing (sym (bad-count m n ts p q) ∙ h)
+    go false b c p q r = accepted-not (sym (bad-cores m n ts p) ∙ h)
+    go true false c p q r = accepted-not (sym (bad-count m n ts p q) ∙ h)
     go true true true p q r =
         let f : (first n bad < n) × (bad (first n bad) ≡ true) = first-holds n bad r in
-        clashing (sym (bad-values m n ts p q (first n bad) (f .0) (λ k l. passes k (omega (arith, f .0)) (before k l)) (not-true _ (f .1))) ∙ h)
+        accepted-not (sym (bad-values m n ts p q (first n bad) (f .0) (λ k l. passes k (omega (arith, f .0)) (before k l)) (not-true _ (f .1))) ∙ h)
       where
         before : (k : ℕ) → k < first n bad → bad k ≡ false
         before k l = first-before n bad k l
@@ -88,3 +84,13 @@ accepted-good m n ts h = go _ _ _ refl refl refl
       tasks = counts-say n 64 q;
       values = λ i l. values-say (ts i) (not-false _ (any-each n bad r i l));
     }
+
+-- and such a table is accepted
+pub values-fit : (t : Task) → Ranges t → valuesFit t ≡ true
+values-fit t r = sym (values-last t (r .some) (r .short) (r .inside)) ∙ le-leb _ _ (r .most)
+
+pub counts-fit : (x most : ℕ) → (1 ≤ x) × (x ≤ most) → leb 1 x && leb x most ≡ true
+counts-fit x most h = both-make (le-leb 1 x (h .0)) (le-leb x most (h .1))
+
+pub good-accepted : (m n : ℕ) (ts : ℕ → Task) → GoodTable m n ts → checkedTasks m n ts ≡ Accepted
+good-accepted m n ts g = all-good m n ts (counts-fit m 16 (g .cores)) (counts-fit n 64 (g .tasks)) (λ i l. values-fit (ts i) (g .values i l))

@@ -1,7 +1,7 @@
 -- Laws of an array that starts with one value everywhere and is then stored to, one place after another.
-use mathlib.Core.Path.{_≡_, ap, _∙_}
+use mathlib.Core.Path.{_≡_, refl, ap, _∙_}
 use mathlib.Core.List.{List}
-use Prim.Native.Nat.{ℕ, _<_}
+use Prim.Native.Nat.{ℕ, zero, suc, _<_}
 use native.Mathlib.Decide.{ℕ-discrete}
 use native.Mathlib.Omega.{arith}
 use lib.ListN.{length, getD, set, replicate, length-set, length-replicate, getD-replicate}
@@ -35,3 +35,9 @@ module _ {A : Type 0} where
   -- a record's list before its first entry
   pub padded-start : (size : ℕ) (empty : A) (f : ℕ → A) → replicate size empty ≡ padded size 0 empty f
   padded-start size empty f = padded-none size empty f (replicate size empty) (length-replicate size empty) (λ i l. getD-replicate size i empty empty l)
+
+  -- a list of one value reads as it everywhere
+  pub replicate-at : (n i : ℕ) (v : A) → getD (replicate n v) i v ≡ v
+  replicate-at zero i v = refl
+  replicate-at (suc n) zero v = refl
+  replicate-at (suc n) (suc i) v = replicate-at n i v

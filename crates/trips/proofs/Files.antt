@@ -18,6 +18,7 @@ use Rattle.tasks.specs.declared.Answer.{Answer}
 use Rattle.tasks.specs.declared.Answer.the-variants.{Accepted, Refused}
 use Rattle.tasks.specs.declared.Refusal.the-variants.{NoPlanShape}
 use Rattle.tasks.specs.declared.Table.{Table}
+use Rattle.tasks.proofs.Answers.{accepted-not}
 use Rattle.plans.specs.Pieces.{noPiece, taskOf, pieceOf}
 use Rattle.shapes.specs.Shape.{checkedPlan, shape}
 use Rattle.plans.specs.declared.Plan.{Plan}
@@ -27,7 +28,6 @@ use Rattle.reading.specs.Reading.{defaultCores, begun, emptyPlan, refusal, move
 use Rattle.files.specs.Files.{tableRead, planRead}
 use Rattle.fields.specs.declared.Field.{Field}
 use Rattle.trips.proofs.Accepted.{told, Content, Held, read-held, cleared, zero-byte}
-use Rattle.trips.proofs.Good.{accepted-not-refused}
 
 -- a lent slice: each byte is below 256, and the length fits a machine word
 pub record Slice (s : List ℕ) : Type 0 where
@@ -87,16 +87,16 @@ unfolding ended
 ended-says f n h = first (ℕ-discrete (f .bad) 0)
   where
     third : (b : Bool) → eqb n 0 ≡ b → fieldsAnswer (cond b (refusedField (movedTo f (f .end)) 6) f) ≡ Accepted → 1 ≤ n
-    third true e q = accepted-not-refused q refl
+    third true e q = accepted-not q
     third false e q = positive n (eqb-false n 0 e)
 
     second : (b : Bool) → ltb 0 (f .count) ≡ b → f .bad ≡ 0 → fieldsAnswer (cond b (refusedField f 1) (cond (eqb n 0) (refusedField (movedTo f (f .end)) 6) f)) ≡ Accepted → Ended f n
-    second true e a q = accepted-not-refused q refl
+    second true e a q = accepted-not q
     second false e a q = record { bad = a; count = le-zero (ltb-false 0 (f .count) e); some = third _ refl q }
 
     first : Dec (f .bad ≡ 0) → Ended f n
     first (yes a) = second _ refl a (rw (eq-eqb (f .bad) 0 a) at h)
-    first (no a) = accepted-not-refused {x = refusal (f .bad) (f .place)} h (simp (ne-eqb (f .bad) 0 a))
+    first (no a) = let k : endedAfter f n ≡ Refused (refusal (f .bad) (f .place)) = simp (ne-eqb (f .bad) 0 a) in accepted-not (sym k ∙ h)
 
 -- ---- told again
 
@@ -177,11 +177,11 @@ unfolding planEnded
 plan-ended-says f p h = fields _ refl
   where
     shaped : (b : Bool) → f .misshapen ≡ b → cond b (Refused NoPlanShape) (checkedPlan p) ≡ Accepted → (f .misshapen ≡ false) × (checkedPlan p ≡ Accepted)
-    shaped true e q = accepted-not-refused q refl
+    shaped true e q = accepted-not q
     shaped false e q = (e, q)
 
     fields : (a : Answer) → endedAfter f (p .count) ≡ a → Ended f (p .count) × ((f .misshapen ≡ false) × (checkedPlan p ≡ Accepted))
-    fields (Refused x) e = accepted-not-refused {x = x} h (rw e)
+    fields (Refused x) e = let k : planEnded f p ≡ Refused x = rw e in accepted-not (sym k ∙ h)
     fields Accepted e = (ended-says f (p .count) e, shaped _ refl (rw e at h))
 
 -- every accepted table file that names its core count is written again byte for byte, any other with the count of 4 before it

@@ -1,4 +1,3 @@
-pub mod Good
 pub mod Numbers
 pub mod Same
 pub mod InParts

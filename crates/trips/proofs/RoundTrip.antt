@@ -8,14 +8,15 @@ use native.Mathlib.Omega.{arith}
 use lib.ListN.{length}
 use borrow.Author.Tests.{leb-true, ne-eqb}
 use Rattle.tasks.proofs.Padded.{padded-in, padded-is, padded-more}
-use Rattle.tasks.proofs.Tables.{GoodTable, accepted-good}
+use Rattle.tasks.proofs.Tables.{GoodTable, accepted-good, values-fit, counts-fit}
 use Rattle.tasks.specs.Below.{padded, tabulate, row}
 use Rattle.tasks.specs.Tables.{noTask, coresFit, valuesFit, checkedTable, SameTable, CleanTable, taskOf as taskOfTable}
 use Rattle.tasks.specs.declared.Answer.the-variants.{Accepted}
 use Rattle.tasks.specs.declared.Task.{Task}
 use Rattle.tasks.specs.declared.Table.{Table}
 use Rattle.plans.specs.Pieces.{noPiece, taskOf, pieceOf, SamePlan, CleanPlan}
-use Rattle.shapes.proofs.InShape.{GoodPlan, accepted-plan, tests}
+use Rattle.shapes.proofs.SamePlans.{shape-same}
+use Rattle.shapes.proofs.InShape.{GoodPlan, accepted-plan, tests, plan-accepted}
 use Rattle.shapes.specs.Shape.{checkedPlan}
 use Rattle.plans.specs.declared.Piece.{Piece}
 use Rattle.plans.specs.declared.Plan.{Plan}
@@ -27,8 +28,7 @@ use Rattle.reading.specs.Reading.{begun, emptyPlan, ended, tableClosed, planEnd
 use Rattle.files.specs.Files.{tableRead, planRead}
 use Rattle.fields.specs.declared.Field.{Field}
 use Rattle.fields.specs.declared.Reader.{Reader}
-use Rattle.trips.proofs.Good.{values-fit, counts-fit, plan-accepted}
-use Rattle.trips.proofs.Same.{shape-same, tasks-same, costs-fit}
+use Rattle.trips.proofs.Same.{tasks-same, costs-fit}
 use Rattle.trips.proofs.ReadBack.{read-cores, read-task, read-piece}
 use Rattle.fields.proofs.Fields.{reader}
 use Rattle.trips.proofs.InParts.{read-parts}
@@ -119,7 +119,7 @@ clean-good p g =
     let k : p .placed ≤ 128 = leb-true _ _ (tests _ _ _ _ _ (g .shaped) .1) in
     let ts : (i : ℕ) → i < p .count → taskOf p i ≡ taskOf (cleanPlan p) i = λ i l. sym (padded-in 64 noTask (p .count) (taskOf p) i l (omega arith)) in
     let pc : (j : ℕ) → j < p .placed → pieceOf p j ≡ pieceOf (cleanPlan p) j = λ j l. sym (padded-in 128 noPiece (p .placed) (pieceOf p) j l (omega arith)) in
-    record { table = tasks-same _ _ _ _ ts (g .table); shaped = shape-same _ _ _ _ _ _ _ ts pc (g .shaped) }
+    record { table = tasks-same _ _ _ _ ts (g .table); shaped = sym (shape-same _ _ _ pc _ _ _ _ ts) ∙ g .shaped }
 
 -- what is written of a good plan reads back to the same plan
 pub plan-reads-back : (p : Plan) → checkedPlan p ≡ Accepted → planRead (planBytes p) ≡ record { answer = Accepted; plan = cleanPlan p }

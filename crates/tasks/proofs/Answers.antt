@@ -1,0 +1,9 @@
+-- What is accepted is not refused.
+use mathlib.Core.Path.{_≡_}
+use Prim.Native.Nat.{ℕ}
+use native.Mathlib.Omega.{arith}
+use Rattle.tasks.specs.declared.Answer.the-variants.{Accepted, Refused}
+use Rattle.tasks.specs.declared.Refusal.{Refusal}
+
+pub accepted-not : {A : Type 0} {r : Refusal} → Refused r ≡ Accepted → A
+accepted-not e = let z : _≡_ {A = ℕ} 0 1 = cc in absurd (omega arith)
