@@ -1,5 +1,4 @@
 // Our side of the benchmark: a table file planned, and ticks of a plan file at full rate, each told as a checksum.
-ghost use Prim.Native.Nat.{_≤_};
 use jobs::CoreRun;
 use jobs::Runner;
 use jobs::Tasks;
@@ -25,16 +24,9 @@ fn of_kind(kind: Kind) -> u64 {
     }
 }
 
-// The number of pieces, no more than a plan's record has.
-fn pieces_of(placed: usize) -> usize
-    ensures { λ r. ⌜ r ≤ 128 ⌝ }
-{
-    if placed < 128 { placed } else { 128 }
-}
-
 // The checksum of a plan's pieces: task, core, kind and cost of each.
 fn of_plan(plan: Plan) -> u64 {
-    let n = pieces_of(plan.placed);
+    let n = tasks::smaller(plan.placed, 128);
     let mut sum: u64 = 0;
     for j in 0..n {
         let z = plan.pieces[j];

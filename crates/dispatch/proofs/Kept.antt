@@ -119,7 +119,7 @@ module _ (p : Plan) (s : State) (fs rs : Tasks) where
 fresh-job : (i : ℕ) → jobOf freshState i ≡ noJob
 fresh-job i = replicate-at 64 i noJob
 
-pub fresh-core : (x : ℕ) → lastOf freshState x ≡ Idle
+fresh-core : (x : ℕ) → lastOf freshState x ≡ Idle
 fresh-core x = ap (λ (c : CoreRun). c .runner) (replicate-at 16 x noRun)
 
 pub fresh-made : (p : Plan) → wellMade p freshState ≡ true

@@ -17,11 +17,12 @@ use Rattle.made.specs.WellMade.{jobWellMade, coreWellMade}
 use Rattle.rules.specs.States.{wellMade}
 use Rattle.rules.specs.Rules.{eachJob, finish, markLate, firstPiece, release, highest, run, age, preempted, countPreempted}
 use Rattle.sets.specs.Refusing.{lowest, judgedSets}
+use Rattle.allowed.specs.Allowed.{allowedBelow}
 use Rattle.dispatch.specs.Tick.{judged, tick}
 use Rattle.rules.specs.Advance.{checked, nextState}
 use Rattle.examples.specs.Example.{holds, allHold}
 use Rattle.examples.specs.Document.{document}
 
 pub document-holds : allHold document ≡ true
-unfolding allHold holds document all any first sum count tabulate padded checkedTasks costs interference periods above localDeadline load bound follows inOrder isLast pieceFits shape checkedPlan allowance limitOf put takesWhole giveShare close shareFrom start place layFirst planned member jobWellMade coreWellMade wellMade eachJob finish markLate firstPiece release highest run age preempted countPreempted lowest judgedSets checked judged nextState tick
+unfolding allHold holds document allowedBelow all any first sum count tabulate padded checkedTasks costs interference periods above localDeadline load bound follows inOrder isLast pieceFits shape checkedPlan allowance limitOf put takesWhole giveShare close shareFrom start place layFirst planned member jobWellMade coreWellMade wellMade eachJob finish markLate firstPiece release highest run age preempted countPreempted lowest judgedSets checked judged nextState tick
 document-holds = refl

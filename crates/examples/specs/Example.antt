@@ -1,30 +1,29 @@
 -- A worked example, and the test that it holds of the definitions.
-use mathlib.Core.Bool.{Bool, true, false, not, _&&_, _||_, cond}
+use mathlib.Core.Bool.{Bool, true, false, _&&_, cond}
 use mathlib.Core.List.{List, [], _∷_}
 use mathlib.Core.Option.{Option, none, some}
-use Prim.Native.Nat.{ℕ, zero, suc, _/_}
-use lib.Dec.{leb, eqb}
-use lib.ListN.{length, getD, replicate}
+use Prim.Native.Nat.{ℕ, _/_}
+use lib.Dec.{eqb}
+use lib.ListN.{length, getD}
 use Rattle.tasks.specs.Below.{tabulate}
 use Rattle.tasks.specs.Refusals.{Told, place, task, given, needed, nothing, number, tells}
-use Rattle.tasks.specs.Tables.{noTask, taskNo}
+use Rattle.tasks.specs.Tables.{noTask}
 use Rattle.tasks.specs.declared.Answer.{Answer}
 use Rattle.tasks.specs.declared.Answer.the-variants.{Accepted, Refused}
 use Rattle.tasks.specs.declared.Table.{Table}
 use Rattle.tasks.specs.declared.Task.{Task}
-use Rattle.tasks.specs.declared.TaskNo.{TaskNo}
 use Rattle.plans.specs.Interference.{interference, periods}
-use Rattle.plans.specs.Pieces.{taskOf, pieceOf}
+use Rattle.plans.specs.Pieces.{pieceOf}
 use Rattle.shapes.specs.Shape.{isShare}
 use Rattle.plans.specs.declared.Piece.{Piece}
 use Rattle.plans.specs.declared.Plan.{Plan}
 use Rattle.layout.specs.Layout.{planned}
 use Rattle.layout.specs.declared.Planned.{Planned}
-use Rattle.jobs.specs.Jobs.{isActive, onceReleased, byRunner}
-use Rattle.rules.specs.States.{jobOf, lastOf, freshState}
+use Rattle.jobs.specs.Jobs.{byRunner}
+use Rattle.rules.specs.States.{lastOf, freshState}
+use Rattle.allowed.specs.Allowed.{noTasks, allowedSet}
 use Rattle.dispatch.specs.Tick.{tick}
 use Rattle.rules.specs.declared.State.{State}
-use Rattle.jobs.specs.declared.Tasks.{Tasks}
 
 -- (c, d, p)
 abbrev pub timed : ℕ → ℕ → ℕ → Task
@@ -94,24 +93,6 @@ lineOf z = record { task = z .task .0; core = z .core .0; kind = cond (isShare (
 abbrev listing : Plan → List Line
 listing p = tabulate (p .placed) (λ j. lineOf (pieceOf p j))
 
-abbrev noSet : Tasks
-noSet = record { members = replicate 64 (taskNo 0); count = 0 }
-
--- the numbers below k that pass, in front of others
-abbrev those : (ℕ → Bool) → ℕ → List TaskNo → List TaskNo
-those f zero rest = rest
-those f (suc k) rest = those f k (cond (f k) (taskNo k ∷ rest) rest)
-
--- a release is allowed where none was or the period is over and the job has ended
-abbrev allowed : Plan → State → ℕ → Bool
-allowed p s i = not (onceReleased (jobOf s i .phase)) || (not (isActive (jobOf s i .phase)) && leb (taskOf p i .period) (jobOf s i .age))
-
--- every task whose release is allowed
-abbrev allAllowed : Plan → State → Tasks
-allAllowed p s =
-    let free : List TaskNo = those (allowed p s) (p .count) [] in
-    record { members = tabulate 64 (λ k. getD free k (taskNo 0)); count = length free }
-
 abbrev row : Plan → State → List (Option ℕ)
 row p s = tabulate (p .cores) (λ x. byRunner (lastOf s x) none (λ i. some i))
 
@@ -119,7 +100,7 @@ row p s = tabulate (p .cores) (λ x. byRunner (lastOf s x) none (λ i. some i))
 abbrev ranAs : Plan → ℕ → ℕ → State → List (List (Option ℕ)) → Bool
 ranAs p late preemptions s [] = eqb (s .late) late && eqb (s .preemptions) preemptions
 ranAs p late preemptions s (r ∷ rs) =
-    let next : State = tick p s noSet (allAllowed p s) .state in
+    let next : State = tick p s noTasks (allowedSet p s) .state in
     sameList sameOption (row p next) r && ranAs p late preemptions next rs
 
 abbrev refusedAs : ℕ → ℕ → Answer → Bool

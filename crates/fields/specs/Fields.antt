@@ -33,7 +33,7 @@ tag f = getD (f .bytes) 0 0
 abbrev pub lengthFor : ℕ → ℕ
 lengthFor g = cond (eqb g 1) 1 (cond (eqb g 2) 12 7)
 
--- a core count only as the first field; a task after no piece; a piece only in plan files
+-- a core count only as the first field; a task only before any piece; a piece only in plan files
 unfoldable pub tagFits : Field → Bool
 tagFits f =
     cond (eqb (tag f) 1) (eqb (f .place) 0)

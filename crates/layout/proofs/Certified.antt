@@ -12,7 +12,6 @@ use Rattle.tasks.specs.declared.Answer.the-variants.{Accepted, Refused}
 use Rattle.tasks.specs.declared.Table.{Table}
 use Rattle.tasks.proofs.Answers.{accepted-not}
 use Rattle.shapes.proofs.Shaped.{shape-accepted}
-use Rattle.bounds.specs.Bound.{localDeadline, bound}
 use Rattle.bounds.specs.Certificate.{Certified}
 use Rattle.plans.specs.Pieces.{taskOf, pieceOf, CleanPlan}
 use Rattle.shapes.specs.Shape.{checkedPlan}
@@ -81,10 +80,6 @@ module _ (t : Table) (accepted : planned t .answer ≡ Accepted) where
   pub planned-shape : checkedPlan (planned t .plan) ≡ Accepted
   unfolding start
   planned-shape = rw (planning .plan) (complete-shape (planning .draft) (subst (λ (n : ℕ). LaidBefore n (planning .draft)) (sym (kept .count)) all-laid))
-
-  -- every piece's bound is within its local deadline
-  pub planned-within : (q : ℕ) → q < planned t .plan .placed → bound (taskOf (planned t .plan)) (pieceOf (planned t .plan)) (planned t .plan .placed) q ≤ localDeadline (taskOf (planned t .plan)) (pieceOf (planned t .plan)) q
-  planned-within = rw (planning .plan) (all-laid .laid .within)
 
   -- it has the certificate
   pub planned-certified : Certified (taskOf (planned t .plan)) (pieceOf (planned t .plan)) (planned t .plan .placed)

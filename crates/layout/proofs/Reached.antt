@@ -9,9 +9,8 @@ use Rattle.tasks.specs.Below.{any, first}
 use Rattle.tasks.specs.Tables.{checkedTable}
 use Rattle.tasks.specs.declared.Answer.the-variants.{Accepted}
 use Rattle.tasks.specs.declared.Table.{Table}
-use Rattle.bounds.specs.Bound.{localDeadline, bound}
 use Rattle.bounds.specs.Leaves.{Moderate}
-use Rattle.plans.specs.Pieces.{taskOf, pieceOf}
+use Rattle.plans.specs.Pieces.{taskOf}
 use Rattle.layout.specs.Layout.{start, place, layFirst, laid}
 use Rattle.layout.specs.Whole.{takesWhole}
 use Rattle.layout.specs.declared.Draft.{Draft}
@@ -46,7 +45,3 @@ module _ (t : Table) (good : checkedTable t ≡ Accepted) where
   pub lay-moderate : (i : ℕ) → i ≤ t .count → (d : Draft) → layFirst (start t) i ≡ laid d → Moderate (d .plan)
   unfolding start
   lay-moderate i h d e = drafted-moderate i (taskOf (d .plan) i .cost) 0 d (lay-ready i h d e) (omega (arith, lay-keeps (start t) i d e .count))
-
-  -- every piece of it has a bound within its local deadline
-  pub lay-within : (i : ℕ) → i ≤ t .count → (d : Draft) → layFirst (start t) i ≡ laid d → (q : ℕ) → q < d .plan .placed → bound (taskOf (d .plan)) (pieceOf (d .plan)) (d .plan .placed) q ≤ localDeadline (taskOf (d .plan)) (pieceOf (d .plan)) q
-  lay-within i h d e = lay-ready i h d e .laid .within

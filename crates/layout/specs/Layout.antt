@@ -56,11 +56,12 @@ layFirst d (suc i) = thenPlace i (layFirst d i)
 abbrev pub refused : Refusal → Planned
 refused r = record { answer = Refused r; plan = noPlan }
 
--- the refusal of a bad table; if the cores run out, the table is refused, naming this task; otherwise the plan
+-- if the cores run out, the table is refused, naming this task; otherwise the plan
 abbrev pub outcome : Laying → Planned
 outcome (laid d) = record { answer = Accepted; plan = d .plan }
 outcome (stuck i) = refused (NotPlaced (taskNo i))
 
+-- a bad table gets its own refusal
 abbrev pub ifGood : Answer → Planned → Planned
 ifGood (Refused r) p = refused r
 ifGood Accepted p = p

@@ -34,7 +34,7 @@ fn gap(text: Text, x: usize) -> Text
 fn runs(text: Text, cores: usize, ran: Ran) -> Text
     ensures { λ r. ⌜ r ≡ puts text (runsText cores (ran .runs)) ⌝ }
 {
-    let most = if cores < 16 { cores } else { 16 };
+    let most = tasks::smaller(cores, 16);
     let mut t = text;
     let mut x = 0;
     while x < most {

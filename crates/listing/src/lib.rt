@@ -40,7 +40,7 @@ fn listing(text: Text, plan: Plan) -> Text
         .words(b" tasks ")
         .number(plan.count as u64)
         .words(b"\n");
-    let most = if plan.placed < 128 { plan.placed } else { 128 };
+    let most = tasks::smaller(plan.placed, 128);
     let mut j = 0;
     while j < most {
         t = piece(t, plan.pieces[j]);

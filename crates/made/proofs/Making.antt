@@ -27,7 +27,7 @@ use Rattle.jobs.proofs.Numbers.{once-no, named-no}
 use Rattle.made.specs.WellMade.{pieceExists, atNoPiece, jobWellMade, jobsWellMade, coreWellMade, coresWellMade}
 
 -- a count above a size reads as that size, where all past it pass
-pub all-read : (size n : ℕ) (f : ℕ → Bool) → ((j : ℕ) → size ≤ j → f j ≡ true) → all (min n size) f ≡ all n f
+all-read : (size n : ℕ) (f : ℕ → Bool) → ((j : ℕ) → size ≤ j → f j ≡ true) → all (min n size) f ≡ all n f
 all-read size n f h = go (either (all (min n size) f)) (either (all n f))
   where
     go : (all (min n size) f ≡ true) ⊎ (all (min n size) f ≡ false) → (all n f ≡ true) ⊎ (all n f ≡ false) → all (min n size) f ≡ all n f

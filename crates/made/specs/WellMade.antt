@@ -11,7 +11,7 @@ use Rattle.jobs.specs.Jobs.{noJob, noRun, byPhase, byRunner, onceReleased, name
 use Rattle.jobs.specs.declared.CoreRun.{CoreRun}
 use Rattle.jobs.specs.declared.Job.{Job}
 
--- ages are at most p and at least 1 once released, 0 before
+-- once released, ages are at least 1 and at most p
 abbrev pub ageFits : Plan → ℕ → Job → Bool
 ageFits p i j = leb 1 (j .age) && leb (j .age) (taskOf p i .period)
 
@@ -24,6 +24,7 @@ pieceExists p i j =
 abbrev pub atNoPiece : Job → Bool
 atNoPiece j = eqb (j .piece) 0 && eqb (j .ran) 0 && not (j .late)
 
+-- before a release the age is 0
 unfoldable pub jobWellMade : Plan → ℕ → Job → Bool
 jobWellMade p i j =
     byPhase (j .phase)

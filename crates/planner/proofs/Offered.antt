@@ -21,7 +21,7 @@ use Rattle.tasks.specs.Tables.{noTask, checkedTable}
 use Rattle.tasks.specs.declared.Answer.the-variants.{Accepted}
 use Rattle.tasks.specs.declared.Table.{Table}
 use lib.ListN.{replicate, length-replicate, set, getD-replicate}
-use mathlib.Core.Option.{none, some}
+use mathlib.Core.Option.{none}
 use mathlib.Core.Path.{_≡_, refl}
 use native.Mathlib.Decide.{ℕ-discrete}
 use native.Mathlib.Omega.{arith}

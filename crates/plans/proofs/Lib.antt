@@ -1,4 +1,5 @@
 pub mod Interference
 pub mod Rank
 pub mod Costs
+pub mod Margins
 pub mod Settled

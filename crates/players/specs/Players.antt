@@ -19,6 +19,6 @@ atHand w = take (min (w .count) 160) (w .bytes)
 abbrev pub start : ℕ → Player
 start n = record { state = freshState; bytes = replicate 160 0; count = 0; place = n; text = noText }
 
--- at the end of the input: nothing is left, or what is left is no whole and good request
+-- at the end of the input: accepted if nothing is left, otherwise what the bytes left are judged as
 unfoldable pub lastAnswer : Player → Answer
 lastAnswer w = cond (leb (length (atHand w)) 0) Accepted (requestAnswer (atHand w) (placeAt (w .place)))

@@ -28,7 +28,7 @@ pub fn start(place: usize) -> Player
     }
 }
 
-// At the end of the input: why what is left is no request, or that nothing is left.
+// At the end of the input: accepted if nothing is left, otherwise what the bytes left are judged as.
 pub fn last(player: Player) -> Answer
     ensures { λ r. ⌜ r ≡ lastAnswer player ⌝ }
 {

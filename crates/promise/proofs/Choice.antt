@@ -17,7 +17,7 @@ use Rattle.rules.specs.declared.State.{State}
 use Rattle.rules.proofs.Highest.{idle-none, runner-stands, runner-above}
 
 module _ (p : Plan) (s : State) where
-  -- of the first k tasks, t is at a piece on core x, and that is above each other that one is at there
+  -- of the first k tasks, t's job stands on core x, and its piece is ranked above that of every other job there
   pub record Picked (x k t : ℕ) : Type 0 where
     pub below : t < k
     pub stands : standsOn p s x t ≡ true

@@ -29,7 +29,7 @@ use Rattle.jobs.specs.declared.Runner.the-variants.{Idle, Runs}
 use Rattle.rules.specs.declared.State.{State}
 use Rattle.jobs.specs.declared.Tasks.{Tasks}
 use Rattle.schedules.specs.Model as model
-use Rattle.schedules.specs.Model.{Stage, ended, at, May}
+use Rattle.schedules.specs.Model.{Stage, at, May}
 use Rattle.schedules.specs.Moments.{held, goes, goesAt, finished, released, ticked, tick, Accepted, Step}
 use Rattle.dispatch.proofs.Kept.{ready, next-last}
 use Rattle.promise.specs.View.{stageOf, ranLast, momentOf, modelOf}

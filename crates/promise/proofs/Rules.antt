@@ -14,7 +14,7 @@ use Rattle.shapes.specs.Shape.{isLast}
 use Rattle.plans.specs.declared.Plan.{Plan}
 use Rattle.jobs.specs.Jobs.{isActive}
 use Rattle.rules.specs.States.{jobOf, wellMade}
-use Rattle.rules.specs.Rules.{endedJob, finishedJob, turnsLate, markedJob, firstPiece, releasedJob, runsNow, ranJob, agedJob, finish, markLate, release, run, age}
+use Rattle.rules.specs.Rules.{endedJob, finishedJob, turnsLate, markedJob, firstPiece, releasedJob, runsNow, ranJob, agedJob, finish, markLate}
 use Rattle.jobs.specs.Sets.{member}
 use Rattle.rules.specs.Advance.{nextState}
 use Rattle.made.specs.WellMade.{ageFits, pieceExists, jobWellMade}
@@ -125,9 +125,9 @@ released-stood p c rs i j l h = go (member rs i)
     go true a = record { known = first-piece p c i l .0; own = first-piece p c i l .1; young = omega arith }
     go false a = h a
 
--- ---- the jobs and cores of the states between the rules
+-- ---- the jobs of the states between the rules
 module _ (p : Plan) (c : GoodPlan p) where
-  -- as the laws of the rules see it
+  -- the plan as the laws of the rules see it
   pub rightly : Good p
   rightly = good p (plan-accepted p c)
 

@@ -17,11 +17,13 @@ use tasks::Table;
 use tasks::Task;
 use tasks::TaskNo;
 
+// What a table file is answered with, and its table, which on a refusal is empty.
 pub struct ReadTable {
     pub answer: Answer,
     pub table: Table,
 }
 
+// What a plan file is answered with, and its plan, which on a refusal is empty.
 pub struct ReadPlan {
     pub answer: Answer,
     pub plan: Plan,

@@ -31,7 +31,7 @@ use Rattle.requests.proofs.Good.{Good, accepted-good, size-is}
 
 -- ---- a part of the bytes
 
-pub part-is : (f t : ℕ) (l : List ℕ) → f ≤ t → take (t - f) (drop f l) ≡ drop f (take t l)
+part-is : (f t : ℕ) (l : List ℕ) → f ≤ t → take (t - f) (drop f l) ≡ drop f (take t l)
 part-is f t l h = ext-getD 0 _ _ (omega (arith, length-take (t - f) (drop f l), length-drop f l, length-drop f (take t l), length-take t l)) (λ i b. at i b)
   where
     at : (i : ℕ) → i < length (take (t - f) (drop f l)) → getD (take (t - f) (drop f l)) i 0 ≡ getD (drop f (take t l)) i 0

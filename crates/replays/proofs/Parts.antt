@@ -1,6 +1,6 @@
 -- A replay in parts is the replay of the whole: what is played of the bytes at hand is what the whole input prints first, and the rest comes after it.
 use mathlib.Core.Path.{_≡_, refl, sym, ap, _∙_}
-use mathlib.Core.Bool.{cond}
+use mathlib.Core.Bool.{Bool, true, false, cond}
 use mathlib.Core.List.{List, [], _∷_, _++_, append-assoc}
 use Prim.Native.Nat.{ℕ, zero, suc, _+_, _-_, _*_, _≤_, _<_, min}
 use native.Mathlib.Nat.{zero-add}
@@ -22,7 +22,7 @@ use Rattle.tasks.proofs.Places.{further-is}
 use Rattle.files.specs.Files.{planRead}
 use Rattle.requests.specs.Requests.{requestSize, requestAnswer}
 use Rattle.replays.specs.Replay.{closed, ticksText, told, replayText, Standing, next, played, wholes, standing, playedOn}
-use Rattle.players.specs.Players.{start, atHand}
+use Rattle.players.specs.Players.{start, atHand, lastAnswer}
 use Rattle.players.specs.declared.Player.{Player}
 use Rattle.replays.proofs.Course.{wholes-none, wholes-more, wholes-zero}
 use Rattle.requests.proofs.Good.{Good, accepted-good, good-accepted, good-on, finished-on, released-on, size-is, size-on}
@@ -150,6 +150,15 @@ goes-on-from p w k more z e far =
 pub goes-on : (p : Plan) (w : Player) (k : ℕ) (more : List ℕ) → w .place + length (atHand w) ≤ 18446744073709551615 → GoesOn p w (playedOn p w) k more
 unfolding playedOn
 goes-on p w k more far = goes-on-from p w k more _ refl far
+
+-- at the end of the input a player's last answer and the totals are what the input still prints
+pub ends : (p : Plan) (w : Player) (k : ℕ) → wholes 1 (atHand w) ≡ 0 → ticksText (suc k) p (w .place) (w .state) (atHand w) ≡ closed (lastAnswer w) (w .state) (totalsText (w .state))
+unfolding lastAnswer
+ends p w k h = at-end p k (w .place) (w .state) (atHand w) h ∙ go (leb (length (atHand w)) 0)
+  where
+    go : (b : Bool) → cond b (totalsText (w .state)) (closed (requestAnswer (atHand w) (placeAt (w .place))) (w .state) (totalsText (w .state))) ≡ closed (cond b Accepted (requestAnswer (atHand w) (placeAt (w .place)))) (w .state) (totalsText (w .state))
+    go true = refl
+    go false = refl
 
 -- a whole input with an accepted plan file prints the ticks from a started player on
 pub replay-begins : (high low : ℕ) (file ticks : List ℕ) → length file ≡ high * 256 + low → planRead file .answer ≡ Accepted

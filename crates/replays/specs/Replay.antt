@@ -75,16 +75,17 @@ unfoldable pub played : Plan → ℕ → Standing → Standing
 played p zero z = z
 played p (suc k) z = next p (played p k z)
 
--- with how many whole and good requests some bytes begin, of at most k
+-- one more if the first is whole and good, otherwise none
 abbrev pub oneMore : Answer → ℕ → ℕ
 oneMore (Refused x) n = 0
 oneMore Accepted n = suc n
 
+-- with how many whole and good requests some bytes begin, of at most k
 unfoldable pub wholes : ℕ → List ℕ → ℕ
 wholes zero bs = 0
 wholes (suc k) bs = oneMore (requestAnswer bs (placeAt 0)) (wholes k (drop (requestSize bs) bs))
 
--- all whole requests at hand are played, and what is left stands at the beginning
+-- a player that stands there, what is left being at the beginning
 abbrev pub standing : Player → Standing → Player
 standing w z = record {
   state = z .state;
@@ -94,5 +95,6 @@ standing w z = record {
   text = textOf (z .said);
 }
 
+-- all whole requests at hand are played
 unfoldable pub playedOn : Plan → Player → Player
 playedOn p w = standing w (played p (wholes 80 (atHand w)) (record { state = w .state; left = atHand w; said = [] }))

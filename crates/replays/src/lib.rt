@@ -1,4 +1,4 @@
-// Replays: ticks that come as bytes, one request after another, are made where they are whole, and the lines that they print.
+// Replays: ticks come as bytes, one request after another; those that are whole are made, and their lines are told.
 ghost use mathlib.Core.Path.{_≡_};
 ghost use Prim.Native.Nat.{_+_, _-_, _≤_};
 ghost use lib.ListN.{getD, take};
@@ -81,6 +81,7 @@ fn show(mut reel: Reel, plan: Plan, ran: Ran, _state: State) -> Reel
     reel
 }
 
+// Both of what playing comes to.
 fn taken(reel: Reel, state: State) -> Shot
     ensures { λ r. ⌜ r ≡ shotOf reel state ⌝ }
 {

@@ -40,6 +40,6 @@ requestAnswer s start =
     cond (ltb 64 (finishes s) || ltb 64 (releases s)) (Refused (WrongLength start))
     (cond (ltb (length s) (requestSize s)) (Refused (CutShort start)) Accepted)
 
--- both of a request
+-- the answer for a request, and its size
 abbrev pub judged : List ℕ → Place → Judged
 judged s start = record { answer = requestAnswer s start; size = requestSize s }

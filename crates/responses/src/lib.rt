@@ -24,7 +24,7 @@ pub fn watched(plan: Plan, watched: Watched) -> Text
     ensures { λ r. ⌜ r ≡ textOf (watchedText plan watched) ⌝ }
 {
     let mut t = lines::totals(Text::empty(), watched.state);
-    let most = if plan.count < 64 { plan.count } else { 64 };
+    let most = tasks::smaller(plan.count, 64);
     let mut i = 0;
     while i < most {
         t = response(t, i, watched.longest[i], plan.tasks[i].deadline);

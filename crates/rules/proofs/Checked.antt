@@ -1,26 +1,23 @@
 -- What an accepted plan and a well made state are.
-use mathlib.Core.Path.{_≡_, refl, sym, _∙_}
-use mathlib.Core.Bool.{Bool, true, false, _&&_, cond}
-use Prim.Native.Nat.{ℕ, zero, suc, _≤_, _<_}
-use native.Mathlib.Decide.{ℕ-discrete}
-use native.Mathlib.Omega.{arith}
-use lib.Dec.{ltb, eqb}
-use borrow.Author.Tests.{leb-true, ltb-true}
+use mathlib.Core.Path.{_≡_, refl}
+use mathlib.Core.Bool.{Bool, true, false, cond}
+use Prim.Native.Nat.{ℕ, _≤_, _<_}
+use lib.Dec.{eqb}
+use borrow.Author.Tests.{leb-true}
 use Rattle.tasks.specs.Below.{first}
 use Rattle.tasks.specs.Tables.{andThen}
 use Rattle.tasks.specs.declared.Answer.{Answer}
 use Rattle.tasks.specs.declared.Answer.the-variants.{Accepted, Refused}
 use Rattle.tasks.specs.declared.Refusal.{Refusal}
 use Rattle.tasks.specs.declared.Refusal.the-variants.{NotWellMade}
-use Rattle.tasks.proofs.Bools.{both}
 use Rattle.tasks.proofs.Tables.{Ranges}
 use Rattle.tasks.proofs.Answers.{accepted-not}
 use Rattle.plans.specs.Pieces.{taskOf, pieceOf}
-use Rattle.shapes.specs.Shape.{isShare, inOrder, checkedPlan}
+use Rattle.shapes.specs.Shape.{inOrder, checkedPlan}
 use Rattle.plans.specs.declared.Plan.{Plan}
 use Rattle.shapes.proofs.InShape as shape
 use Rattle.shapes.proofs.InShape.{GoodPlan, accepted-plan}
-use Rattle.shapes.proofs.Shaped.{Fits, same-follows, tasks-rise}
+use Rattle.shapes.proofs.Shaped.{Fits}
 use Rattle.rules.specs.Advance.{checked}
 use Rattle.rules.specs.Sound.{Sound}
 use Rattle.rules.specs.States.{wellMade}
@@ -31,7 +28,7 @@ pub both-accepted : (a b : Answer) → andThen a b ≡ Accepted → (a ≡ Accep
 both-accepted Accepted b h = (refl, h)
 both-accepted (Refused r) b h = accepted-not h
 
-pub met : (b : Bool) (r : Refusal) → cond b Accepted (Refused r) ≡ Accepted → b ≡ true
+met : (b : Bool) (r : Refusal) → cond b Accepted (Refused r) ≡ Accepted → b ≡ true
 met true r h = refl
 met false r h = accepted-not h
 
@@ -81,21 +78,3 @@ module _ (p : Plan) (g : Good p) where
 
   in-order : (j : ℕ) → j < p .placed → inOrder (pieceOf p) j ≡ true
   in-order j l = g .fits j l .order
-
-  -- a task's cores rise with its pieces
-  core-next : (j : ℕ) → suc j < p .placed → pieceOf p j .task .0 ≡ pieceOf p (suc j) .task .0 → pieceOf p j .core .0 < pieceOf p (suc j) .core .0
-  unfolding inOrder
-  core-next j l e =
-      let h : isShare (pieceOf p j .kind) && isShare (pieceOf p (suc j) .kind) && ltb (pieceOf p j .core .0) (pieceOf p (suc j) .core .0) ≡ true = sym (same-follows (pieceOf p j) (pieceOf p (suc j)) e) ∙ in-order (suc j) l in
-      ltb-true _ _ (both {a = isShare (pieceOf p j .kind) && isShare (pieceOf p (suc j) .kind)} h .1)
-
-  pub cores-rise : (k j : ℕ) → k < j → j < p .placed → pieceOf p k .task .0 ≡ pieceOf p j .task .0 → pieceOf p k .core .0 < pieceOf p j .core .0
-  cores-rise k zero h l e = absurd (omega arith)
-  cores-rise k (suc j) h l e = go (ℕ-discrete k j) (cores-rise k j)
-    where
-      last : pieceOf p j .task .0 ≡ pieceOf p (suc j) .task .0
-      last = omega (arith, tasks-rise (pieceOf p) (p .placed) in-order k j (omega arith) (omega arith), tasks-rise (pieceOf p) (p .placed) in-order j (suc j) (omega arith) l)
-
-      go : Dec (k ≡ j) → (k < j → j < p .placed → pieceOf p k .task .0 ≡ pieceOf p j .task .0 → pieceOf p k .core .0 < pieceOf p j .core .0) → pieceOf p k .core .0 < pieceOf p (suc j) .core .0
-      go (yes q) ih = rw q (core-next j l last)
-      go (no q) ih = omega (arith, ih (omega arith) (omega arith) (e ∙ sym last), core-next j l last)

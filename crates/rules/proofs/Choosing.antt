@@ -84,7 +84,7 @@ pub ran-turn : (p : Plan) (s : State) (i : ℕ) (j : Job) (st : Stand) (core : C
 ran-turn p s i j st core n r b e q h w f = f (rw (e, q)) (rw (e, q) (sym (not-twice _))) ∙ rw (w, named-no (core .runner) i b, h, q)
 
 -- a piece that is not its task's last has one after it
-pub not-last : (pc : ℕ → Piece) (n j : ℕ) → isLast pc n j ≡ false → suc j < n
+not-last : (pc : ℕ → Piece) (n j : ℕ) → isLast pc n j ≡ false → suc j < n
 unfolding isLast
 not-last pc n j h = ltb-true (suc j) n (both {a = ltb (suc j) n} (not-false _ h) .0)
 

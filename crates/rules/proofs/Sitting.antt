@@ -118,7 +118,7 @@ module _ (p : Plan) (i : ℕ) where
   sits-placed o Ended l k a r m = omega (arith, at-first l k r (both {a = leb a (taskOf p i .period)} m .1))
 
 -- ---- phases
-pub active-once : (h : Phase) → isActive h ≡ true → onceReleased h ≡ true
+active-once : (h : Phase) → isActive h ≡ true → onceReleased h ≡ true
 active-once Never e = clash e refl
 active-once Active e = refl
 active-once Ended e = refl

@@ -1,5 +1,5 @@
 -- The six rules of a tick, each from state to state, in document 01's order, and the preemptions.
--- Each rule reads the plan's tasks and cores alone; past them the state that it makes is 0 or none.
+-- Each rule reads the plan's tasks and cores alone; past the tasks it leaves no job, and past the cores nothing runs after rule 4.
 use mathlib.Core.Bool.{Bool, true, false, not, _&&_, cond}
 use Prim.Native.Nat.{ℕ, zero, suc, _+_, min}
 use lib.Dec.{ltb, eqb}
@@ -78,7 +78,7 @@ pieceAt p s i = pieceOf p (jobOf s i .piece)
 abbrev pub standsOn : Plan → State → ℕ → ℕ → Bool
 standsOn p s x i = isActive (jobOf s i .phase) && eqb (pieceAt p s i .core .0) x
 
--- task i's piece is ranked above that of a task found so far
+-- no task was found so far, or task i's piece is ranked above that of the one found
 abbrev pub beats : Plan → State → ℕ → Runner → Bool
 beats p s i r = byRunner r true (λ t. above (taskOf p) (pieceAt p s i) (pieceAt p s t))
 

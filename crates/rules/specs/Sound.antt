@@ -16,7 +16,7 @@ pub record Sound (p : Plan) : Type 0 where
   pub tasks : (j : ℕ) → j < p .placed → pieceOf p j .task .0 < p .count
   pub places : (j : ℕ) → j < p .placed → pieceOf p j .core .0 < p .cores
 
--- each job is at a piece of the plan, the first where it is not active
+-- each job's piece is one of the plan's
 abbrev pub AtPieces : Plan → State → Type 0
 AtPieces p s = (i : ℕ) → i < p .count → jobOf s i .piece < p .placed
 

@@ -19,9 +19,9 @@ pub fn judge_sets(plan: Plan, state: State, finished: Tasks, released: Tasks) ->
     ensures { λ r. ⌜ r ≡ judgedSets plan state finished released ⌝ }
 {
     let last = state.last;
-    let idle = lowest_idle(plan.count, plan.cores, last, finished);
-    if idle < 256 {
-        return Answer::Refused(Refusal::NotRun(TaskNo(idle as u8)));
+    let not_run = lowest_not_run(plan.count, plan.cores, last, finished);
+    if not_run < 256 {
+        return Answer::Refused(Refusal::NotRun(TaskNo(not_run as u8)));
     }
     let tasks = plan.tasks;
     let jobs = state.jobs;
@@ -54,7 +54,7 @@ pub fn judge_sets(plan: Plan, state: State, finished: Tasks, released: Tasks) ->
 }
 
 // The lowest finished task that refusal 10 concerns, or 256.
-fn lowest_idle(count: usize, cores: usize, last: [CoreRun; 16], finished: Tasks) -> usize
+fn lowest_not_run(count: usize, cores: usize, last: [CoreRun; 16], finished: Tasks) -> usize
     ensures { λ r. ⌜ ((p : Plan) (s : State) → p .count ≡ count → p .cores ≡ cores → s .last ≡ last → r ≡ first 256 (λ t. member finished t && notRun p s t)) ⌝ }
 {
     let known = tasks::smaller(cores, 16);

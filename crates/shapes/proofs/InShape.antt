@@ -25,7 +25,7 @@ use Rattle.plans.specs.declared.Piece.{Piece}
 use Rattle.plans.specs.declared.Plan.{Plan}
 
 -- ---- the costs of a task's pieces
-pub costs-away : (pc : ℕ → Piece) (i k : ℕ) → ((j : ℕ) → j < k → eqb (pc j .task .0) i ≡ false) → costs pc i k ≡ 0
+costs-away : (pc : ℕ → Piece) (i k : ℕ) → ((j : ℕ) → j < k → eqb (pc j .task .0) i ≡ false) → costs pc i k ≡ 0
 unfolding costs
 costs-away pc i k h = sum-none k _ (λ j l. rw (h j l))
 
@@ -117,7 +117,7 @@ module _ (m count : ℕ) (ts : ℕ → Task) (pc : ℕ → Piece) (n : ℕ) (goo
       go j b false t = t
       go j b true t = absurd (omega (arith, first-le n own j (omega (arith, l .0)) t))
 
-  -- with each of its pieces a task is within its cost
+  -- a piece and the earlier ones of its task cost at most what the task does
   pub earlier-within : (j : ℕ) → j < n → earlier pc j + pc j .cost ≤ ts (pc j .task .0) .cost
   earlier-within j h = omega (arith, costs-own pc j, costs-within j h)
 

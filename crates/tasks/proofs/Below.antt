@@ -147,7 +147,7 @@ first-same zero f g h = refl
 first-same (suc n) f g h = rw (first-same n f g (λ j l. h j (omega arith)), any-same n f g (λ j l. h j (omega arith)), h n (omega arith))
 
 -- ---- sums
-pub sum-more : (n : ℕ) (f : ℕ → ℕ) → sum (n + 1) f ≡ sum n f + f n
+sum-more : (n : ℕ) (f : ℕ → ℕ) → sum (n + 1) f ≡ sum n f + f n
 unfolding sum
 sum-more n f = rw add-one
 
@@ -193,7 +193,7 @@ unfolding sum
 sum-none zero f h = refl
 sum-none (suc n) f h = omega (arith, sum-none n f (λ j l. h j (omega arith)), h n (omega arith))
 
-pub sum-ones : (n : ℕ) → sum n (λ j. 1) ≡ n
+sum-ones : (n : ℕ) → sum n (λ j. 1) ≡ n
 unfolding sum
 sum-ones zero = refl
 sum-ones (suc n) = omega (arith, sum-ones n)

@@ -15,7 +15,7 @@ one-le true false h = clash (h refl) refl
 one-le false true h = omega arith
 one-le false false h = omega arith
 
-pub count-up : (n : ℕ) (f g : ℕ → Bool) → ((k : ℕ) → k < n → f k ≡ true → g k ≡ true) → count n f ≤ count n g
+count-up : (n : ℕ) (f g : ℕ → Bool) → ((k : ℕ) → k < n → f k ≡ true → g k ≡ true) → count n f ≤ count n g
 unfolding count
 count-up n f g h = sum-le n _ _ (λ k l. one-le (f k) (g k) (h k l))
 

@@ -26,7 +26,7 @@ pub struct Table {
     pub tasks: [Task; 64],
 }
 
-// A refusal of document 01, with what it tells. 4, 5 and 6 tell a place of a file and a number of a record.
+// A refusal of document 01, with what it tells. 4, 5 and 6 tell a place for a file and a number for a record.
 pub enum Refusal {
     CutShort(Place),
     WrongTag(Place),

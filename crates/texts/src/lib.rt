@@ -48,6 +48,7 @@ impl Text {
         t
     }
 
+    // Some words more.
     pub fn words(self, words: &[u8]) -> Text
         ensures { λ r. ⌜ r ≡ puts self (now (words .entry)) ⌝ }
     {
@@ -60,6 +61,7 @@ impl Text {
         t
     }
 
+    // A number more, in decimal.
     pub fn number(self, n: u64) -> Text
         ensures { λ r. ⌜ r ≡ puts self (decimal n) ⌝ }
     {

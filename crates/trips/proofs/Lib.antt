@@ -1,5 +1,5 @@
 pub mod Numbers
-pub mod Same
+pub mod Good
 pub mod InParts
 pub mod ReadBack
 pub mod RoundTrip

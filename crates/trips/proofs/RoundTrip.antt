@@ -28,7 +28,7 @@ use Rattle.reading.specs.Reading.{begun, emptyPlan, ended, tableClosed, planEnd
 use Rattle.files.specs.Files.{tableRead, planRead}
 use Rattle.fields.specs.declared.Field.{Field}
 use Rattle.fields.specs.declared.Reader.{Reader}
-use Rattle.trips.proofs.Same.{tasks-same, costs-fit}
+use Rattle.trips.proofs.Good.{tasks-same, costs-fit}
 use Rattle.trips.proofs.ReadBack.{read-cores, read-task, read-piece}
 use Rattle.fields.proofs.Fields.{reader}
 use Rattle.trips.proofs.InParts.{read-parts}

@@ -75,7 +75,7 @@ waits-short f n h = first _ refl
     first true q = omega (arith, ltb-true (f .count) 3 q)
     first false q = last _ refl (waits-test (not (eqb (number2 (f .bytes) 1) (lengthFor (tag f)))) 3 _ (omega arith) (waits-test (eqb (tag f) 2 && leb 64 n) 6 _ (omega arith) (waits-test (not (tagFits f)) 2 _ (omega arith) (rw q at h))))
 
--- a core count at the start, a task after no piece, or a piece in a plan file
+-- a core count at the start, a task before any piece, or a piece in a plan file
 pub tag-cases : (f : Field) → tagFits f ≡ true → ((tag f ≡ 1) × (f .place ≡ 0)) ⊎ (((tag f ≡ 2) × (f .place ≤ f .end)) ⊎ ((tag f ≡ 3) × (f .pieces ≡ true)))
 unfolding tagFits
 tag-cases f h = go (ℕ-discrete (tag f) 1) (ℕ-discrete (tag f) 2) (ℕ-discrete (tag f) 3)

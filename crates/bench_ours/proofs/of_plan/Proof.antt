@@ -9,8 +9,8 @@ Inv-loop plan n sum₀ j₀ sum j = j ≤ n
 abbrev μ-loop : tie.MeasureT-loop
 μ-loop plan n sum₀ j₀ sum j = n - j
 
-pieces-of-requires : tie.Need-pieces-of-requires Inv-loop μ-loop
-pieces-of-requires c κs = search needs
+smaller-requires : tie.Need-smaller-requires Inv-loop μ-loop
+smaller-requires c κs = search needs
 
 loop-holds : tie.Need-loop-holds Inv-loop μ-loop
 loop-holds c = search needs
@@ -63,7 +63,7 @@ of-plan-spec =
     (tie.spec
     Inv-loop
     μ-loop
-    pieces-of-requires
+    smaller-requires
     loop-holds
     mul-z
     element-copy-out-z

@@ -8,7 +8,6 @@ use mathlib.Core.List.{_++_}
 use Rattle.texts.proofs.Putting.{puts-parts, row-turn}
 use Prim.Native.Nat.{_≤_, _-_, min}
 use native.Mathlib.Omega.{arith}
-use mathlib.Core.Logic.{⊎-elim}
 use mathlib.Core.Path.{_≡_, refl}
 use Rattle.lines.proofs.runs.Statement.{statement}
 use Rattle.lines.proofs.runs.Tie as tie
@@ -19,9 +18,12 @@ Inv-loop cores ran most t₀ x₀ t8 t x = (x ≤ most) × (most ≡ min cores 1
 abbrev μ-loop : tie.MeasureT-loop
 μ-loop cores ran most t₀ x₀ t8 t x = most - x
 
+smaller-requires : tie.Need-smaller-requires Inv-loop μ-loop
+smaller-requires c κs = search needs
+
 loop-holds : tie.Need-loop-holds Inv-loop μ-loop
 unfolding row puts
-loop-holds c = (search needs, ⊎-elim (λ w. omega arith) (λ w. omega arith) (c .if1 .came), refl)
+loop-holds c = (search needs, c .smaller .ensures, refl)
 
 gap-requires : tie.Need-gap-requires Inv-loop μ-loop
 gap-requires c κs = search needs
@@ -52,7 +54,7 @@ words-requires c κs = search needs
 
 returns : tie.Need-returns Inv-loop μ-loop
 unfolding runsText ascii
-returns c = let e : c .before .before .before .loop .x ≡ c .before .before .before .before .if1 .most = omega arith in simp (puts-parts, c .words .ensures, c .before .before .before .loop .inv .2, e, c .before .before .before .loop .inv .1)
+returns c = let e : c .before .before .before .loop .x ≡ c .before .before .before .before .smaller .result = omega arith in simp (puts-parts, c .words .ensures, c .before .before .before .loop .inv .2, e, c .before .before .before .loop .inv .1)
 
 pub runs-spec : {M : Type 1} → statement M
 runs-spec =
@@ -60,6 +62,7 @@ runs-spec =
     (tie.spec
     Inv-loop
     μ-loop
+    smaller-requires
     loop-holds
     gap-requires
     mul-on-core

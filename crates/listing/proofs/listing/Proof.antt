@@ -6,7 +6,6 @@ use Rattle.texts.specs.Text.{ascii, puts}
 use Rattle.texts.proofs.Putting.{puts-parts, row-turn}
 use Prim.Native.Nat.{_≤_, _-_, min}
 use native.Mathlib.Omega.{arith}
-use mathlib.Core.Logic.{⊎-elim}
 use mathlib.Core.Path.{_≡_, refl}
 use Rattle.listing.proofs.listing.Statement.{statement}
 use Rattle.listing.proofs.listing.Tie as tie
@@ -41,9 +40,12 @@ slice-aggregate-words-3 c = search needs
 words-requires-3 : tie.Need-words-requires-3 Inv-loop μ-loop
 words-requires-3 c κs = search needs
 
+smaller-requires : tie.Need-smaller-requires Inv-loop μ-loop
+smaller-requires c κs = search needs
+
 loop-holds : tie.Need-loop-holds Inv-loop μ-loop
 unfolding row puts
-loop-holds c = (search needs, ⊎-elim (λ w. omega arith) (λ w. omega arith) (c .if1 .came), refl)
+loop-holds c = (search needs, c .smaller .ensures, refl)
 
 mul-piece : tie.Need-mul-piece Inv-loop μ-loop
 mul-piece c = search needs
@@ -65,7 +67,7 @@ loop-again c = (search needs, search needs, row-turn _ _ _ _ _ (c .before .befor
 
 returns : tie.Need-returns Inv-loop μ-loop
 unfolding listingText headText ascii
-returns c = let e : c .before .loop .j ≡ c .before .before .if1 .most = omega arith in simp (puts-parts, c .before .loop .inv .2, e, c .before .loop .inv .1, c .before .before .before .words3 .ensures, c .before .before .before .before .before .number2 .ensures, c .before .before .before .before .before .before .words2 .ensures, c .before .before .before .before .before .before .before .before .number .ensures, c .before .before .before .before .before .before .before .before .before .words .ensures)
+returns c = let e : c .before .loop .j ≡ c .before .before .smaller .result = omega arith in simp (puts-parts, c .before .loop .inv .2, e, c .before .loop .inv .1, c .before .before .before .words3 .ensures, c .before .before .before .before .before .number2 .ensures, c .before .before .before .before .before .before .words2 .ensures, c .before .before .before .before .before .before .before .before .number .ensures, c .before .before .before .before .before .before .before .before .before .words .ensures)
 
 pub listing-spec : {M : Type 1} → statement M
 listing-spec =
@@ -81,6 +83,7 @@ listing-spec =
     number-requires-2
     slice-aggregate-words-3
     words-requires-3
+    smaller-requires
     loop-holds
     mul-piece
     element-copy-out-piece

@@ -7,7 +7,6 @@ use lib.ListN.{getD}
 use Rattle.texts.proofs.Putting.{puts-parts, row-turn}
 use Prim.Native.Nat.{_≤_, _-_, min}
 use native.Mathlib.Omega.{arith}
-use mathlib.Core.Logic.{⊎-elim}
 use mathlib.Core.Path.{_≡_, refl}
 use Rattle.responses.proofs.watched.Statement.{statement}
 use Rattle.responses.proofs.watched.Tie as tie
@@ -24,9 +23,12 @@ empty-requires c κs = search needs
 totals-requires : tie.Need-totals-requires Inv-loop μ-loop
 totals-requires c κs = search needs
 
+smaller-requires : tie.Need-smaller-requires Inv-loop μ-loop
+smaller-requires c κs = search needs
+
 loop-holds : tie.Need-loop-holds Inv-loop μ-loop
 unfolding row puts
-loop-holds c = (search needs, ⊎-elim (λ w. omega arith) (λ w. omega arith) (c .if1 .came), refl)
+loop-holds c = (search needs, c .smaller .ensures, refl)
 
 mul-response : tie.Need-mul-response Inv-loop μ-loop
 mul-response c = search needs
@@ -54,7 +56,7 @@ loop-again c = (search needs, search needs, row-turn _ _ _ _ _ (c .before .befor
 
 returns : tie.Need-returns Inv-loop μ-loop
 unfolding watchedText
-returns c = let e : c .before .loop .i ≡ c .before .before .if1 .most = omega arith in simp (puts-parts, c .before .loop .inv .2, e, c .before .loop .inv .1, c .before .before .before .totals .ensures, c .before .before .before .before .before .empty .ensures)
+returns c = let e : c .before .loop .i ≡ c .before .before .smaller .result = omega arith in simp (puts-parts, c .before .loop .inv .2, e, c .before .loop .inv .1, c .before .before .before .totals .ensures, c .before .before .before .before .before .empty .ensures)
 
 pub watched-spec : {M : Type 1} → statement M
 watched-spec =
@@ -64,6 +66,7 @@ watched-spec =
     μ-loop
     empty-requires
     totals-requires
+    smaller-requires
     loop-holds
     mul-response
     element-copy-out-response

@@ -14,14 +14,14 @@ use Rattle.sets.proofs.judge_sets.Statement.{statement}
 use Rattle.sets.proofs.judge_sets.Tie as tie
 
 abbrev Inv-loop : tie.InvT-loop
-Inv-loop plan released idle tasks jobs known ended count soon₀ active₀ k₀ soon active k = (k ≤ count) × (count ≤ 64) × (count ≡ min (released .count) 64) × ((s : State) (fs : Tasks) → s .jobs ≡ jobs → ended ≡ tabulate 256 (member fs) → (soon ≡ lowestOf released (soonAfter plan fs s) k) × (active ≡ lowestOf released (activeAfter plan fs s) k))
+Inv-loop plan released not-run tasks jobs known ended count soon₀ active₀ k₀ soon active k = (k ≤ count) × (count ≤ 64) × (count ≡ min (released .count) 64) × ((s : State) (fs : Tasks) → s .jobs ≡ jobs → ended ≡ tabulate 256 (member fs) → (soon ≡ lowestOf released (soonAfter plan fs s) k) × (active ≡ lowestOf released (activeAfter plan fs s) k))
 
 abbrev μ-loop : tie.MeasureT-loop
-μ-loop plan released idle tasks jobs known ended count soon₀ active₀ k₀ soon active k = count - k
+μ-loop plan released not-run tasks jobs known ended count soon₀ active₀ k₀ soon active k = count - k
 
 -- every finished task ran in the tick before
 ran : (c : tie.Else1 Inv-loop μ-loop) → let a = c .before .before .before .args in Accepted ≡ lowest (a .finished) (notRun (a .plan) (a .state)) (λ t. NotRun t)
-ran c = let a = c .before .before .before .args in lowest-accepted (a .finished) (notRun (a .plan) (a .state)) (λ t. NotRun t) _ (c .before .lowest-idle .ensures (a .plan) (a .state) refl refl refl) (c .if1 .left)
+ran c = let a = c .before .before .before .args in lowest-accepted (a .finished) (notRun (a .plan) (a .state)) (λ t. NotRun t) _ (c .before .lowest-not-run .ensures (a .plan) (a .state) refl refl refl) (c .if1 .left)
 
 -- the two numbers, once all the released tasks are looked at
 lows : (c : tie.After-loop Inv-loop μ-loop) → let w = c .before in let a = w .before .before .before .before .before .before .before .before .before .args in (w .loop .soon ≡ lowestBad (a .t4) (soonAfter (a .plan) (a .finished) (a .state))) × (w .loop .active ≡ lowestBad (a .t4) (activeAfter (a .plan) (a .finished) (a .state)))
@@ -31,15 +31,15 @@ lows c = let w = c .before in let a = w .before .before .before .before .before 
 in-time : (c : tie.Else2 Inv-loop μ-loop) → let a = c .before .before .before .before .before .before .before .before .before .before .before .args in Accepted ≡ lowest (a .t4) (soonAfter (a .plan) (a .finished) (a .state)) (λ t. TooSoon t)
 in-time c = let a = c .before .before .before .before .before .before .before .before .before .before .before .args in lowest-accepted (a .t4) (soonAfter (a .plan) (a .finished) (a .state)) (λ t. TooSoon t) _ (lows (c .before) .0) (c .if2 .left)
 
-lowest-idle-requires : tie.Need-lowest-idle-requires Inv-loop μ-loop
-lowest-idle-requires c κs = search needs
+lowest-not-run-requires : tie.Need-lowest-not-run-requires Inv-loop μ-loop
+lowest-not-run-requires c κs = search needs
 
 cast-t25 : tie.Need-cast-t25 Inv-loop μ-loop
 cast-t25 c = search needs
 
 returns : tie.Need-returns Inv-loop μ-loop
 unfolding judgedSets
-returns c = let a = c .before .before .before .args in rw (← lowest-refused (a .finished) (notRun (a .plan) (a .state)) (λ t. NotRun t) _ (c .before .lowest-idle .ensures (a .plan) (a .state) refl refl refl) (c .if1 .taken))
+returns c = let a = c .before .before .before .args in rw (← lowest-refused (a .finished) (notRun (a .plan) (a .state)) (λ t. NotRun t) _ (c .before .lowest-not-run .ensures (a .plan) (a .state) refl refl refl) (c .if1 .taken))
 
 smaller-requires : tie.Need-smaller-requires Inv-loop μ-loop
 smaller-requires c κs = search needs
@@ -124,7 +124,7 @@ judge-sets-spec =
     (tie.spec
     Inv-loop
     μ-loop
-    lowest-idle-requires
+    lowest-not-run-requires
     cast-t25
     returns
     smaller-requires

@@ -9,8 +9,8 @@ use Rattle.tasks.proofs.Below.{first-same}
 use Rattle.tasks.specs.Below.{tabulate}
 use Rattle.jobs.specs.Sets.{member}
 use Rattle.sets.proofs.Judging.{notRunOn, none-run, run-more, run-read, lowestOf, lowest-start, lowest-turn, lowest-all}
-use Rattle.sets.proofs.lowest_idle.Statement.{statement}
-use Rattle.sets.proofs.lowest_idle.Tie as tie
+use Rattle.sets.proofs.lowest_not_run.Statement.{statement}
+use Rattle.sets.proofs.lowest_not_run.Tie as tie
 
 abbrev Inv-loop : tie.InvT-loop
 Inv-loop count cores last finished known wrong₀ x₀ wrong x = (x ≤ known) × (known ≤ 16) × (wrong ≡ tabulate 257 (notRunOn count last x))
@@ -81,8 +81,8 @@ loop2-again c = let b = c .before .before .before .before in let l = b .before .
 returns : tie.Need-returns Inv-loop μ-loop Inv-loop2 μ-loop2
 returns c = λ p s h k l. let b = c .before in let w = b .before .before .before in let a = w .before .before .args in let e : b .loop2 .k ≡ min (a .t4 .count) 64 = omega arith in let d : w .loop .x ≡ min (p .cores) 16 = omega (arith, k, w .before .smaller .ensures) in lowest-all (a .t4) (λ t. getD (w .loop .wrong) t false) _ _ e (b .loop2 .inv .3) ∙ first-same 256 _ _ (λ t m. ap (λ (z : Bool). member (a .t4) t && z) (run-read (a .count) (a .t3) p s (w .loop .wrong) (w .before .before .good .1 .1 .0 .1 .0 .1) h l (w .loop .inv .2 ∙ ap (λ (n : ℕ). tabulate 257 (notRunOn (a .count) (a .t3) n)) d) t m))
 
-pub lowest-idle-spec : {M : Type 1} → statement M
-lowest-idle-spec =
+pub lowest-not-run-spec : {M : Type 1} → statement M
+lowest-not-run-spec =
     tie.close
     (tie.spec
     Inv-loop
