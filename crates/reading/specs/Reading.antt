@@ -6,7 +6,7 @@ use lib.ListN.{replicate}
 use Rattle.tasks.specs.Tables.{noTask, andThen}
 use Rattle.tasks.specs.declared.Answer.{Answer}
 use Rattle.tasks.specs.declared.Answer.the-variants.{Accepted, Refused}
-use Rattle.tasks.specs.declared.Place.{Place}
+use Rattle.tasks.specs.Places.{placeAt}
 use Rattle.tasks.specs.declared.Refusal.{Refusal}
 use Rattle.tasks.specs.declared.Refusal.the-variants.{CutShort, WrongTag, WrongLength, CoresAt, ValuesAt, TasksAt, NoPlanShape}
 use Rattle.plans.specs.Pieces.{noPiece}
@@ -37,12 +37,11 @@ begun o = record { field = fieldAt o 0 0 false; plan = emptyPlan defaultCores }
 -- the refusal of this number, which tells this place
 unfoldable pub refusal : ℕ → ℕ → Refusal
 refusal x at =
-    let p : Place = record { 0 = at } in
-    cond (eqb x 1) (CutShort p)
-    (cond (eqb x 2) (WrongTag p)
-    (cond (eqb x 3) (WrongLength p)
-    (cond (eqb x 4) (CoresAt p)
-    (cond (eqb x 5) (ValuesAt p) (TasksAt p)))))
+    cond (eqb x 1) (CutShort (placeAt at))
+    (cond (eqb x 2) (WrongTag (placeAt at))
+    (cond (eqb x 3) (WrongLength (placeAt at))
+    (cond (eqb x 4) (CoresAt (placeAt at))
+    (cond (eqb x 5) (ValuesAt (placeAt at)) (TasksAt (placeAt at))))))
 
 -- the field, moved to this place
 abbrev pub movedTo : Field → ℕ → Field

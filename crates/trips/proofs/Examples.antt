@@ -6,11 +6,10 @@ use lib.ListN.{replicate}
 use Rattle.tasks.specs.Below.{row}
 use Rattle.tasks.specs.Tables.{noTask}
 use Rattle.tasks.specs.declared.Answer.the-variants.{Accepted, Refused}
-use Rattle.tasks.specs.declared.Place.{Place}
 use Rattle.tasks.specs.declared.Refusal.the-variants.{CutShort, WrongTag, WrongLength, CoresAt, ValuesAt, TasksAt}
 use Rattle.tasks.specs.declared.Table.{Table}
 use Rattle.writing.specs.Fields.{tableBytes, tasksBytes, coreField, taskField}
-use Rattle.tasks.specs.Places.{further}
+use Rattle.tasks.specs.Places.{placeAt, further}
 use Rattle.fields.specs.Fields.{read, step, verdict, hold, tagFits, values, nextField, added}
 use Rattle.reading.specs.Reading.{refusal, ended, tableClosed}
 use Rattle.files.specs.Files.{tableRead}
@@ -25,20 +24,17 @@ table = record { cores = 2; count = 1; tasks = record { cost = 6; deadline = 10;
 abbrev tasks : ℕ → ℕ → List ℕ
 tasks n p = row n (λ i. taskField (record { cost = 1; deadline = 1; period = p }))
 
-abbrev at : ℕ → Place
-at n = record { 0 = n }
-
 pub record SmallFiles : Type 0 where
   pub written : tableBytes table ≡ example
   pub read-back : tableRead example ≡ record { answer = Accepted; table = table }
-  pub no-task : tableRead [] .answer ≡ Refused (TasksAt (at 0))
-  pub short-tail : tableRead (example ++ (9 ∷ 9 ∷ [])) .answer ≡ Refused (CutShort (at 19))
-  pub second-count : tableRead (example ++ (1 ∷ 0 ∷ 1 ∷ [])) .answer ≡ Refused (WrongTag (at 19))
-  pub wrong-length : tableRead (2 ∷ 0 ∷ 13 ∷ []) .answer ≡ Refused (WrongLength (at 0))
-  pub many-cores : tableRead (1 ∷ 0 ∷ 1 ∷ 17 ∷ 7 ∷ []) .answer ≡ Refused (CoresAt (at 0))
+  pub no-task : tableRead [] .answer ≡ Refused (TasksAt (placeAt 0))
+  pub short-tail : tableRead (example ++ (9 ∷ 9 ∷ [])) .answer ≡ Refused (CutShort (placeAt 19))
+  pub second-count : tableRead (example ++ (1 ∷ 0 ∷ 1 ∷ [])) .answer ≡ Refused (WrongTag (placeAt 19))
+  pub wrong-length : tableRead (2 ∷ 0 ∷ 13 ∷ []) .answer ≡ Refused (WrongLength (placeAt 0))
+  pub many-cores : tableRead (1 ∷ 0 ∷ 1 ∷ 17 ∷ 7 ∷ []) .answer ≡ Refused (CoresAt (placeAt 0))
   pub most-tasks : tableRead (tasks 64 1000000) .answer ≡ Accepted
-  pub many-tasks : tableRead (tasks 65 1000000) .answer ≡ Refused (TasksAt (at 960))
-  pub long-period : tableRead (tasks 1 1000001) .answer ≡ Refused (ValuesAt (at 0))
+  pub many-tasks : tableRead (tasks 65 1000000) .answer ≡ Refused (TasksAt (placeAt 960))
+  pub long-period : tableRead (tasks 1 1000001) .answer ≡ Refused (ValuesAt (placeAt 0))
 
 pub small-files : SmallFiles
 unfolding tableBytes tasksBytes coreField taskField row tableRead tableClosed read step verdict hold tagFits values nextField added further ended refusal
