@@ -83,7 +83,7 @@ pub extern "C" fn bench_ours_ticks(plan: &[u8], count: u32) -> u64 {
     let mut state = dispatch::fresh();
     let mut sum: u64 = 0;
     for _ in 0..count {
-        let ticked = dispatch::tick(plan, state, none, allowed::all_allowed(plan, state));
+        let ticked = dispatch::tick(plan, state, none, fullrate::all_allowed(plan, state));
         let answer = ticked.answer;
         match answer {
             Answer::Accepted => {}

@@ -44,10 +44,10 @@ use denote.Triple.Statement.{Contract, Triple}
 use denote.Triple.Walked.{says, Stays, stay-none, walkOf, AllGo, goes-none, Walks, ends-at, walked, walk-meets}
 use Rattle.plans.specs.declared.Plan.{Plan}
 use Rattle.dispatch.specs.Tick.{tick}
-use Rattle.rules.specs.declared.State.{State}
+use Rattle.dispatch.specs.declared.State.{State}
 use Rattle.jobs.specs.declared.Tasks.{Tasks}
 use Rattle.dispatch.specs.declared.Ticked.{Ticked}
-use Rattle.rules.proofs.State as S
+use Rattle.dispatch.proofs.State as S
 use Rattle.board.specs.Kept.{keptFor}
 use Rattle.board.specs.Ran.{ranOf}
 use Rattle.board.specs.declared.Ran.{Ran}

@@ -7,7 +7,7 @@ use Rattle.tasks.proofs.Settling.{settled}
 use Rattle.plans.specs.declared.Plan.{Plan}
 use Rattle.jobs.specs.Jobs.{noRun}
 use Rattle.dispatch.specs.Tick.{tick}
-use Rattle.rules.specs.declared.State.{State}
+use Rattle.dispatch.specs.declared.State.{State}
 use Rattle.jobs.specs.declared.Tasks.{Tasks}
 use Rattle.dispatch.proofs.Kept.{refused-nothing}
 use Rattle.board.specs.Ran.{ranOf}

@@ -28,8 +28,8 @@ use denote.Triple.Clauses.{Ended, Clauses, Lasts, ensured, lasts, atExit}
 use denote.Triple.Entry.{Args, Res}
 use Rattle.plans.proofs.Plan as P
 use Rattle.plans.proofs.Plan.Laws as P′
-use Rattle.rules.proofs.State as S
-use Rattle.rules.proofs.State.Laws as S′
+use Rattle.dispatch.proofs.State as S
+use Rattle.dispatch.proofs.State.Laws as S′
 use Rattle.jobs.proofs.Tasks as U
 use Rattle.jobs.proofs.Tasks.Laws as U′
 use Rattle.dispatch.proofs.Ticked as K

@@ -2,11 +2,11 @@
 ghost use mathlib.Core.Path.{_≡_};
 ghost use Rattle.dispatch.specs.Tick.{tick as ticked};
 ghost use Rattle.board.specs.Ran.{ranOf};
+use dispatch::State;
 use dispatch::Ticked;
 use jobs::CoreRun;
 use jobs::Tasks;
 use plans::Plan;
-use rules::State;
 use tasks::Answer;
 
 // What a tick shows: its answer, and what runs on each core in it.

@@ -8,17 +8,17 @@ use Rattle.tasks.specs.declared.Answer.the-variants.{Accepted, Refused}
 use Rattle.tasks.specs.declared.Refusal.{Refusal}
 use Rattle.tasks.specs.declared.Refusal.the-variants.{NoPlanShape}
 use Rattle.tasks.specs.declared.Task.{Task}
-use Rattle.shapes.proofs.Shaped.{Fits}
+use Rattle.plans.proofs.Shaped.{Fits}
 use Rattle.bounds.specs.Asking.{boundAsked}
 use Rattle.bounds.specs.Bound.{localDeadline, bound}
 use Rattle.plans.specs.Margins.{margin}
 use Rattle.bounds.specs.declared.Bounding.the-variants as bounding
 use Rattle.bounds.specs.Leaves.{Moderate}
 use Rattle.plans.specs.Pieces.{taskOf, pieceOf, earlier}
-use Rattle.shapes.specs.Shape.{checkedPlan}
+use Rattle.plans.specs.Shape.{checkedPlan}
 use Rattle.plans.specs.declared.Piece.{Piece}
 use Rattle.plans.specs.declared.Plan.{Plan}
-use Rattle.shapes.proofs.InShape.{fits, earlier-within, tests, GoodPlan, accepted-plan}
+use Rattle.plans.proofs.InShape.{fits, earlier-within, tests, GoodPlan, accepted-plan}
 
 -- what a piece's task costs before it, and the piece's local deadline, add up to the task's deadline
 pub deadline-adds : (p : Plan) → checkedPlan p ≡ Accepted → (j : ℕ) → j < p .placed → earlier (pieceOf p) j + localDeadline (taskOf p) (pieceOf p) j ≡ taskOf p (pieceOf p j .task .0) .deadline

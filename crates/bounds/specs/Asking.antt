@@ -9,7 +9,7 @@ use Rattle.tasks.specs.declared.Refusal.the-variants.{NoPlanShape}
 use Rattle.bounds.specs.Bound.{localDeadline, bound}
 use Rattle.plans.specs.Margins.{margin}
 use Rattle.plans.specs.Pieces.{taskOf, pieceOf}
-use Rattle.shapes.specs.Shape.{checkedPlan}
+use Rattle.plans.specs.Shape.{checkedPlan}
 use Rattle.bounds.specs.declared.Bounding.{Bounding}
 use Rattle.bounds.specs.declared.Bounding.the-variants.{Known, Refused}
 use Rattle.plans.specs.declared.Plan.{Plan}

@@ -5,7 +5,7 @@ use Prim.Native.Nat.{ℕ, _≤_, _<_}
 use Rattle.tasks.specs.declared.Task.{Task}
 use Rattle.bounds.specs.Bound.{localDeadline, bound}
 use Rattle.plans.specs.Rank.{above}
-use Rattle.shapes.specs.Shape.{isLast}
+use Rattle.plans.specs.Shape.{isLast}
 use Rattle.plans.specs.declared.Piece.{Piece}
 
 -- of n pieces, each task's last has a bound within its local deadline, and nothing ranks above any other piece

@@ -1,6 +1,8 @@
 // The cases of document 01 that are not proved as examples: each prints what comes of it, and the gate compares.
 use board::Ran;
 use bounds::Bounding;
+use dispatch::State;
+use files::ReadTable;
 use force::InForce;
 use jobs::Job;
 use jobs::Phase;
@@ -9,8 +11,6 @@ use libc::STDOUT_FILENO;
 use plans::Kind;
 use plans::Piece;
 use plans::Plan;
-use reading::ReadTable;
-use rules::State;
 use tasks::Answer;
 use tasks::CoreNo;
 use tasks::Table;
@@ -30,7 +30,7 @@ fn say_answer(words: &[u8], answer: Answer) {
     say(words);
     match answer {
         Answer::Accepted => say(b"accepted\n"),
-        Answer::Refused(refusal) => console::print(telling::refusal(Text::empty(), refusal)),
+        Answer::Refused(refusal) => console::print(texts::refusal(Text::empty(), refusal)),
     }
 }
 
@@ -46,7 +46,7 @@ fn say_written(words: &[u8], written: Written) {
             io::print_decimal(STDOUT_FILENO, length as u64);
             say(b" bytes\n");
         }
-        Written::Refused(refusal) => console::print(telling::refusal(Text::empty(), refusal)),
+        Written::Refused(refusal) => console::print(texts::refusal(Text::empty(), refusal)),
     }
 }
 
@@ -81,8 +81,8 @@ fn table(count: usize, period: u32) -> Table {
 
 // Period 1,000,000 is taken, 1,000,001 refused: in a record and in a file.
 fn periods() {
-    say_answer(b"period 1000000: ", tables::check_table(table(1, 1000000)));
-    say_answer(b"period 1000001: ", tables::check_table(table(1, 1000001)));
+    say_answer(b"period 1000000: ", tasks::check_table(table(1, 1000000)));
+    say_answer(b"period 1000001: ", tasks::check_table(table(1, 1000001)));
     say_read(
         b"period 1000000 in a file: ",
         files::read_table(&[2, 0, 12, 0, 0, 0, 6, 0, 0, 0, 10, 0, 15, 66, 64]),
@@ -95,13 +95,13 @@ fn periods() {
 
 // A file of so many tasks, fed field by field.
 fn fed(count: usize) -> ReadTable {
-    let mut reader = reading::start_table();
+    let mut reader = files::start_table();
     let mut i = 0;
     while i < count {
-        reader = fields::feed(reader, &[2, 0, 12, 0, 0, 0, 6, 0, 0, 0, 10, 0, 0, 0, 10]);
+        reader = files::feed(reader, &[2, 0, 12, 0, 0, 0, 6, 0, 0, 0, 10, 0, 0, 0, 10]);
         i += 1;
     }
-    reading::close_table(reader)
+    files::close_table(reader)
 }
 
 // 64 tasks are read, 65 not.
@@ -114,7 +114,7 @@ fn counts() {
 // If the core count is absent, it is 4.
 fn cores() {
     say(b"no core count: ");
-    console::print(listing::lister(fed(1)));
+    console::print(planlines::lister(fed(1)));
 }
 
 // A table file for two cores and one task is 19 bytes, and the byte past them stays as it was.
@@ -135,7 +135,7 @@ fn reading_back(plan: Plan) {
     let written = writing::write_plan(plan, &mut file);
     say_written(b"a plan file: ", written);
     if let Written::Length(length) = written {
-        console::print(running::runner(console::plan_in(&file, length)));
+        console::print(ticklines::runner(console::plan_in(&file, length)));
     }
 }
 
@@ -148,7 +148,7 @@ fn in_force<'a>(words: &'a [u8], own: &'a [u8], shipped: &'a [u8]) {
     match force::which_in_force(own, shipped) {
         InForce::Own => say(b"the machine's own\n"),
         InForce::Shipped => say(b"the shipped ones\n"),
-        InForce::Neither(refusal) => console::print(telling::refusal(Text::empty(), refusal)),
+        InForce::Neither(refusal) => console::print(texts::refusal(Text::empty(), refusal)),
     }
 }
 
@@ -205,7 +205,7 @@ fn tick(words: &[u8], plan: Plan, state: State, finished: u8, released: u8) {
     let ticked = dispatch::tick(plan, state, only(finished), only(released));
     let answer = ticked.answer;
     let runs = ticked.runs;
-    console::print(lines::ran(Text::empty(), plan.cores, Ran { answer, runs }));
+    console::print(ticklines::ran(Text::empty(), plan.cores, Ran { answer, runs }));
 }
 
 // What a tick is refused with.
@@ -213,9 +213,9 @@ fn ticks(plan: Plan) {
     let fresh = dispatch::fresh();
     tick(b"a finish of a task not run: ", plan, fresh, 1, NONE);
     tick(b"a release of no such task: ", plan, fresh, NONE, 2);
-    let first = runs::watch(plan, 1);
+    let first = fullrate::watch(plan, 1);
     tick(b"a release at age below p: ", plan, first.state, NONE, 0);
-    let tenth = runs::watch(plan, 10);
+    let tenth = fullrate::watch(plan, 10);
     tick(
         b"a release at age p while active: ",
         plan,
@@ -240,15 +240,15 @@ fn ticks(plan: Plan) {
     };
     tick(b"a task never released of age 1: ", plan, aged, NONE, NONE);
     say(b"after 40 ticks at full rate: ");
-    let seen = runs::watch(plan, 40);
-    console::print(lines::totals(Text::empty(), seen.state));
+    let seen = fullrate::watch(plan, 40);
+    console::print(ticklines::totals(Text::empty(), seen.state));
 }
 
 // The bound asked from outside.
 fn bounds(plan: Plan) {
     say(b"the bound of a piece past the list: ");
-    if let Bounding::Refused(refusal) = asking::ask_bound(plan, 2) {
-        console::print(telling::refusal(Text::empty(), refusal));
+    if let Bounding::Refused(refusal) = bounds::ask_bound(plan, 2) {
+        console::print(texts::refusal(Text::empty(), refusal));
     }
 }
 
@@ -265,6 +265,6 @@ fn main() {
     bounds(hand);
     say_answer(
         b"a share that is a task's only piece: ",
-        shapes::check_plan(by_hand(Kind::Share)),
+        plans::check_plan(by_hand(Kind::Share)),
     );
 }

@@ -3,11 +3,11 @@
 ghost use mathlib.Core.Path.{_≡_};
 ghost use lib.ListN.{take};
 ghost use Rattle.files.specs.Files.{planRead};
-use fields::Reader;
+use files::ReadPlan;
+use files::ReadTable;
+use files::Reader;
 use libc::STDIN_FILENO;
 use libc::STDOUT_FILENO;
-use reading::ReadPlan;
-use reading::ReadTable;
 use texts::Text;
 
 // A reader after one more part, and whether the input may go on.
@@ -22,7 +22,7 @@ fn feed_some(reader: Reader) -> Fed {
     let got = libc::read(STDIN_FILENO, &mut part);
     let n = io::count(got, &part);
     Fed {
-        reader: fields::feed(reader, &part[..n]),
+        reader: files::feed(reader, &part[..n]),
         more: n > 0,
     }
 }
@@ -41,12 +41,12 @@ fn feed_all(reader: Reader) -> Reader {
 
 // The table file on standard input.
 pub fn read_table() -> ReadTable {
-    reading::close_table(feed_all(reading::start_table()))
+    files::close_table(feed_all(files::start_table()))
 }
 
 // The plan file on standard input.
 pub fn read_plan() -> ReadPlan {
-    reading::close_plan(feed_all(reading::start_plan()))
+    files::close_plan(feed_all(files::start_plan()))
 }
 
 // The first n bytes of a buffer, or all that it has, read as a plan file.

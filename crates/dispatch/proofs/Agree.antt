@@ -22,26 +22,26 @@ use Rattle.plans.specs.Rank.{above}
 use Rattle.plans.specs.declared.Piece.{Piece}
 use Rattle.plans.specs.declared.Plan.{Plan}
 use Rattle.jobs.specs.Jobs.{noJob, noRun, byRunner, onceReleased, names}
-use Rattle.rules.specs.States.{jobOf, lastOf, SameState, wellMade}
-use Rattle.sets.specs.Refusing.{notRun, tooSoon, stillActive, lowest, judgedSets}
+use Rattle.dispatch.specs.States.{jobOf, lastOf, SameState, wellMade}
+use Rattle.dispatch.specs.Refusing.{notRun, tooSoon, stillActive, lowest, judgedSets}
 use Rattle.dispatch.specs.Tick.{judged, answered, tick}
-use Rattle.rules.specs.Rules.{eachJob, finishedJob, finish, turnsLate, markedJob, markLate, firstPiece, releasedJob, release, pieceAt, standsOn, beats, highest, chosen, runsNow, ranJob, run, preempted, countPreempted, agedJob, age}
+use Rattle.dispatch.specs.Rules.{eachJob, finishedJob, finish, turnsLate, markedJob, markLate, firstPiece, releasedJob, release, pieceAt, standsOn, beats, highest, chosen, runsNow, ranJob, run, preempted, countPreempted, agedJob, age}
 use Rattle.jobs.specs.Sets.{member, SameSet}
-use Rattle.rules.specs.Sound.{Sound, AtPieces}
-use Rattle.rules.specs.Advance.{nextState, checked}
-use Rattle.made.specs.WellMade.{pieceExists, jobWellMade, coreWellMade}
+use Rattle.dispatch.specs.Sound.{Sound, AtPieces}
+use Rattle.dispatch.specs.Advance.{nextState, checked}
+use Rattle.jobs.specs.WellMade.{pieceExists, jobWellMade, coreWellMade}
 use Rattle.jobs.specs.declared.CoreRun.{CoreRun}
 use Rattle.jobs.specs.declared.Job.{Job}
 use Rattle.jobs.specs.declared.Runner.{Runner}
 use Rattle.jobs.specs.declared.Runner.the-variants.{Idle, Runs}
-use Rattle.rules.specs.declared.State.{State}
+use Rattle.dispatch.specs.declared.State.{State}
 use Rattle.jobs.specs.declared.Tasks.{Tasks}
-use Rattle.rules.proofs.Checked.{Good, good, sound}
-use Rattle.dispatch.proofs.Checked.{Taken, taken}
+use Rattle.dispatch.proofs.Checked.{Good, good, sound}
+use Rattle.dispatch.proofs.CheckedTick.{Taken, taken}
 use Rattle.dispatch.proofs.Kept.{ready, by-judged}
-use Rattle.rules.proofs.Steps.{finish-out, ready-pieces}
-use Rattle.rules.proofs.Highest.{runner-stands}
-use Rattle.shapes.proofs.SamePlans.{last-same, checked-same}
+use Rattle.dispatch.proofs.Steps.{finish-out, ready-pieces}
+use Rattle.dispatch.proofs.Highest.{runner-stands}
+use Rattle.plans.proofs.SamePlans.{last-same, checked-same}
 
 state-is : (s t : State) → s .jobs ≡ t .jobs → s .last ≡ t .last → s .late ≡ t .late → s .preemptions ≡ t .preemptions → s ≡ t
 state-is s t j l n m = let e : _≡_ {A = State} (record { jobs = s .jobs; last = s .last; late = s .late; preemptions = s .preemptions }) (record { jobs = t .jobs; last = t .last; late = t .late; preemptions = t .preemptions }) = rw (j, l, n, m) in e

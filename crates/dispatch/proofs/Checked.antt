@@ -1,42 +1,80 @@
--- What an accepted tick is.
+-- What an accepted plan and a well made state are.
 use mathlib.Core.Path.{_≡_, refl}
-use mathlib.Core.Bool.{true}
+use mathlib.Core.Bool.{Bool, true, false, cond}
+use Prim.Native.Nat.{ℕ, _≤_, _<_}
+use lib.Dec.{eqb}
+use borrow.Author.Tests.{leb-true}
+use Rattle.tasks.specs.Below.{first}
+use Rattle.tasks.specs.Tables.{andThen}
 use Rattle.tasks.specs.declared.Answer.{Answer}
 use Rattle.tasks.specs.declared.Answer.the-variants.{Accepted, Refused}
+use Rattle.tasks.specs.declared.Refusal.{Refusal}
+use Rattle.tasks.specs.declared.Refusal.the-variants.{NotWellMade}
+use Rattle.tasks.proofs.Tables.{Ranges}
+use Rattle.tasks.proofs.Answers.{accepted-not}
+use Rattle.plans.specs.Pieces.{taskOf, pieceOf}
+use Rattle.plans.specs.Shape.{inOrder, checkedPlan}
 use Rattle.plans.specs.declared.Plan.{Plan}
-use Rattle.shapes.specs.Shape.{checkedPlan}
-use Rattle.jobs.specs.declared.Tasks.{Tasks}
-use Rattle.rules.specs.Advance.{checked, nextState, advanced, advance}
-use Rattle.rules.specs.States.{wellMade}
-use Rattle.rules.specs.declared.Advanced.{Advanced}
-use Rattle.rules.specs.declared.State.{State}
-use Rattle.rules.proofs.Checked.{both-accepted, Ready, ready-checked}
-use Rattle.sets.specs.Refusing.{judgedSets}
-use Rattle.dispatch.specs.Tick.{judged}
+use Rattle.plans.proofs.InShape as shape
+use Rattle.plans.proofs.InShape.{GoodPlan, accepted-plan}
+use Rattle.plans.proofs.Shaped.{Fits}
+use Rattle.dispatch.specs.Advance.{checked}
+use Rattle.dispatch.specs.Sound.{Sound}
+use Rattle.dispatch.specs.States.{wellMade}
+use Rattle.dispatch.specs.declared.State.{State}
 
--- an accepted tick is of an accepted plan, a well made state and accepted sets
-pub record Taken (p : Plan) (s : State) (fs rs : Tasks) : Type 0 where
+-- ---- accepted is neither refused first nor then
+pub both-accepted : (a b : Answer) → andThen a b ≡ Accepted → (a ≡ Accepted) × (b ≡ Accepted)
+both-accepted Accepted b h = (refl, h)
+both-accepted (Refused r) b h = accepted-not h
+
+met : (b : Bool) (r : Refusal) → cond b Accepted (Refused r) ≡ Accepted → b ≡ true
+met true r h = refl
+met false r h = accepted-not h
+
+-- ---- an accepted plan and a well made state
+pub record Ready (p : Plan) (s : State) : Type 0 where
   pub plan : checkedPlan p ≡ Accepted
   pub state : wellMade p s ≡ true
-  pub sets : judgedSets p s fs rs ≡ Accepted
 
-pub taken : (p : Plan) (s : State) (fs rs : Tasks) → judged p s fs rs ≡ Accepted → Taken p s fs rs
-unfolding judged
-taken p s fs rs h =
-    let a : (checked p s ≡ Accepted) × (judgedSets p s fs rs ≡ Accepted) = both-accepted _ _ h in
-    let r : Ready p s = ready-checked p s (a .0) in
-    record { plan = r .plan; state = r .state; sets = a .1 }
+pub ready-checked : (p : Plan) (s : State) → checked p s ≡ Accepted → Ready p s
+unfolding checked
+ready-checked p s h = let a : (checkedPlan p ≡ Accepted) × (cond (wellMade p s) Accepted (Refused NotWellMade) ≡ Accepted) = both-accepted _ _ h in record { plan = a .0; state = met _ _ (a .1) }
 
--- the rules answer what is said of the plan and the state, and where that is accepted they come to the next state
-module _ (p : Plan) (s : State) (fs rs : Tasks) (r : Advanced) (h : r ≡ advance p s fs rs) where
-  pub advance-answer : r .answer ≡ checked p s
-  unfolding advance
-  advance-answer = rw h (go (checked p s))
-    where
-      go : (a : Answer) → advanced a s (nextState p fs rs s) .answer ≡ a
-      go Accepted = refl
-      go (Refused k) = refl
+-- ---- an accepted plan
+pub record Good (p : Plan) : Type 0 where
+  pub cores : p .cores ≤ 16
+  pub count : p .count ≤ 64
+  pub values : (i : ℕ) → i < p .count → Ranges (taskOf p i)
+  pub some : 1 ≤ p .placed
+  pub placed : p .placed ≤ 128
+  pub fits : (j : ℕ) → j < p .placed → Fits (p .cores) (p .count) (taskOf p) (pieceOf p) (p .placed) j
+  -- each task has a first piece
+  pub begins : (i : ℕ) → i < p .count → (first (p .placed) (λ k. eqb (pieceOf p k .task .0) i) < p .placed) × (pieceOf p (first (p .placed) (λ k. eqb (pieceOf p k .task .0) i)) .task .0 ≡ i)
 
-  pub advance-next : checked p s ≡ Accepted → r .state ≡ nextState p fs rs s
-  unfolding advance
-  advance-next e = rw (h, e)
+pub good : (p : Plan) → checkedPlan p ≡ Accepted → Good p
+good p h =
+    let q : GoodPlan p = accepted-plan p h in
+    let t = shape.tests (p .cores) (p .count) (taskOf p) (pieceOf p) (p .placed) (q .shaped) in
+    record {
+      cores = q .table .cores .1;
+      count = q .table .tasks .1;
+      values = q .table .values;
+      some = leb-true 1 (p .placed) (t .0);
+      placed = leb-true (p .placed) 128 (t .1);
+      fits = shape.fits (p .cores) (p .count) (taskOf p) (pieceOf p) (p .placed) (q .shaped);
+      begins = λ i l. let b = shape.begins (p .cores) (p .count) (taskOf p) (pieceOf p) (p .placed) (q .shaped) i l in (b .known, b .own);
+    }
+
+module _ (p : Plan) (g : Good p) where
+  pub sound : Sound p
+  sound = record {
+    cores = g .cores;
+    count = g .count;
+    placed = g .placed;
+    tasks = λ j l. g .fits j l .task;
+    places = λ j l. g .fits j l .core;
+  }
+
+  in-order : (j : ℕ) → j < p .placed → inOrder (pieceOf p) j ≡ true
+  in-order j l = g .fits j l .order

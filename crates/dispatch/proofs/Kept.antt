@@ -17,22 +17,22 @@ use Rattle.tasks.proofs.Answers.{accepted-not}
 use Rattle.tasks.proofs.Tabulate.{replicate-at}
 use Rattle.plans.specs.declared.Plan.{Plan}
 use Rattle.jobs.specs.Jobs.{noJob, noRun, byRunner, isActive, onceReleased, names}
-use Rattle.rules.specs.States.{freshState, jobOf, lastOf, CleanState, wellMade}
+use Rattle.dispatch.specs.States.{freshState, jobOf, lastOf, CleanState, wellMade}
 use Rattle.dispatch.specs.Tick.{judged, answered, tick}
-use Rattle.rules.specs.Rules.{eachJob, finish, markLate, release, standsOn, highest, runsNow, ranJob, run, countPreempted, agedJob, age}
-use Rattle.rules.specs.Advance.{nextState}
-use Rattle.made.specs.WellMade.{jobWellMade, coreWellMade}
+use Rattle.dispatch.specs.Rules.{eachJob, finish, markLate, release, standsOn, highest, runsNow, ranJob, run, countPreempted, agedJob, age}
+use Rattle.dispatch.specs.Advance.{nextState}
+use Rattle.jobs.specs.WellMade.{jobWellMade, coreWellMade}
 use Rattle.jobs.specs.declared.CoreRun.{CoreRun}
 use Rattle.jobs.specs.declared.Runner.{Runner}
 use Rattle.jobs.specs.declared.Runner.the-variants.{Idle, Runs}
-use Rattle.rules.specs.declared.State.{State}
+use Rattle.dispatch.specs.declared.State.{State}
 use Rattle.jobs.specs.declared.Tasks.{Tasks}
 use Rattle.dispatch.specs.declared.Ticked.{Ticked}
-use Rattle.rules.proofs.Checked.{Good, good}
-use Rattle.dispatch.proofs.Checked.{Taken, taken}
-use Rattle.rules.proofs.Highest.{runner-stands, runs-once}
-use Rattle.rules.proofs.Sitting.{aged-phase, stepped-once}
-use Rattle.rules.proofs.Steps.{each-out, run-in, age-in, count-in, run-last, run-past, made-all, finish-all, mark-all, release-all, run-all, count-all, age-all}
+use Rattle.dispatch.proofs.Checked.{Good, good}
+use Rattle.dispatch.proofs.CheckedTick.{Taken, taken}
+use Rattle.dispatch.proofs.Highest.{runner-stands, runs-once}
+use Rattle.dispatch.proofs.Sitting.{aged-phase, stepped-once}
+use Rattle.dispatch.proofs.Steps.{each-out, run-in, age-in, count-in, run-last, run-past, made-all, finish-all, mark-all, release-all, run-all, count-all, age-all}
 
 -- the jobs when the runners are chosen
 abbrev pub ready : Plan → Tasks → Tasks → State → State

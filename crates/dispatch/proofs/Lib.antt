@@ -1,4 +1,13 @@
-pub mod Checked
+pub mod CheckedTick
 pub mod Kept
 pub mod Agree
 pub mod Settled
+pub mod Walks
+pub mod InPlace
+pub mod Highest
+pub mod Choosing
+pub mod Reading
+pub mod Checked
+pub mod Sitting
+pub mod Steps
+pub mod Judging

@@ -6,9 +6,9 @@ use Rattle.tasks.specs.declared.Answer.the-variants.{Accepted, Refused}
 use Rattle.plans.specs.declared.Plan.{Plan}
 use Rattle.jobs.specs.Jobs.{noRun}
 use Rattle.jobs.specs.declared.Tasks.{Tasks}
-use Rattle.rules.specs.Advance.{checked, nextState}
-use Rattle.rules.specs.declared.State.{State}
-use Rattle.sets.specs.Refusing.{judgedSets}
+use Rattle.dispatch.specs.Advance.{checked, nextState}
+use Rattle.dispatch.specs.declared.State.{State}
+use Rattle.dispatch.specs.Refusing.{judgedSets}
 use Rattle.dispatch.specs.declared.Ticked.{Ticked}
 
 -- when a tick is refused: 4, 6, 5 and 8 for the plan, 9 for the state, then 10, 11 and 12 for the sets

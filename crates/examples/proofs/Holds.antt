@@ -7,19 +7,19 @@ use Rattle.plans.specs.Pieces.{costs}
 use Rattle.plans.specs.Interference.{interference, periods}
 use Rattle.plans.specs.Rank.{above}
 use Rattle.bounds.specs.Bound.{localDeadline, load, bound}
-use Rattle.shapes.specs.Shape.{follows, inOrder, isLast, pieceFits, shape, checkedPlan}
-use Rattle.layout.specs.Limit.{allowance, limitOf}
-use Rattle.layout.specs.Whole.{put, takesWhole}
-use Rattle.layout.specs.Shared.{giveShare, close, shareFrom}
-use Rattle.layout.specs.Layout.{start, place, layFirst, planned}
+use Rattle.plans.specs.Shape.{follows, inOrder, isLast, pieceFits, shape, checkedPlan}
+use Rattle.planner.specs.Limit.{allowance, limitOf}
+use Rattle.planner.specs.Whole.{put, takesWhole}
+use Rattle.planner.specs.Shared.{giveShare, close, shareFrom}
+use Rattle.planner.specs.Layout.{start, place, layFirst, planned}
 use Rattle.jobs.specs.Sets.{member}
-use Rattle.made.specs.WellMade.{jobWellMade, coreWellMade}
-use Rattle.rules.specs.States.{wellMade}
-use Rattle.rules.specs.Rules.{eachJob, finish, markLate, firstPiece, release, highest, run, age, preempted, countPreempted}
-use Rattle.sets.specs.Refusing.{lowest, judgedSets}
-use Rattle.allowed.specs.Allowed.{allowedBelow}
+use Rattle.jobs.specs.WellMade.{jobWellMade, coreWellMade}
+use Rattle.dispatch.specs.States.{wellMade}
+use Rattle.dispatch.specs.Rules.{eachJob, finish, markLate, firstPiece, release, highest, run, age, preempted, countPreempted}
+use Rattle.dispatch.specs.Refusing.{lowest, judgedSets}
+use Rattle.fullrate.specs.Allowed.{allowedBelow}
 use Rattle.dispatch.specs.Tick.{judged, tick}
-use Rattle.rules.specs.Advance.{checked, nextState}
+use Rattle.dispatch.specs.Advance.{checked, nextState}
 use Rattle.examples.specs.Example.{holds, allHold}
 use Rattle.examples.specs.Document.{document}
 

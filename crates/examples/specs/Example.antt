@@ -14,16 +14,16 @@ use Rattle.tasks.specs.declared.Table.{Table}
 use Rattle.tasks.specs.declared.Task.{Task}
 use Rattle.plans.specs.Interference.{interference, periods}
 use Rattle.plans.specs.Pieces.{pieceOf}
-use Rattle.shapes.specs.Shape.{isShare}
+use Rattle.plans.specs.Shape.{isShare}
 use Rattle.plans.specs.declared.Piece.{Piece}
 use Rattle.plans.specs.declared.Plan.{Plan}
-use Rattle.layout.specs.Layout.{planned}
-use Rattle.layout.specs.declared.Planned.{Planned}
+use Rattle.planner.specs.Layout.{planned}
+use Rattle.planner.specs.declared.Planned.{Planned}
 use Rattle.jobs.specs.Jobs.{byRunner}
-use Rattle.rules.specs.States.{lastOf, freshState}
-use Rattle.allowed.specs.Allowed.{noTasks, allowedSet}
+use Rattle.dispatch.specs.States.{lastOf, freshState}
+use Rattle.fullrate.specs.Allowed.{noTasks, allowedSet}
 use Rattle.dispatch.specs.Tick.{tick}
-use Rattle.rules.specs.declared.State.{State}
+use Rattle.dispatch.specs.declared.State.{State}
 
 -- (c, d, p)
 abbrev pub timed : ℕ → ℕ → ℕ → Task

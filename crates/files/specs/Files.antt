@@ -2,10 +2,10 @@
 use mathlib.Core.Bool.{true, false}
 use mathlib.Core.List.{List}
 use Prim.Native.Nat.{ℕ}
-use Rattle.fields.specs.Fields.{read}
-use Rattle.reading.specs.Reading.{begun, tableClosed, planClosed}
-use Rattle.reading.specs.declared.ReadPlan.{ReadPlan}
-use Rattle.reading.specs.declared.ReadTable.{ReadTable}
+use Rattle.files.specs.Fields.{read}
+use Rattle.files.specs.Reading.{begun, tableClosed, planClosed}
+use Rattle.files.specs.declared.ReadPlan.{ReadPlan}
+use Rattle.files.specs.declared.ReadTable.{ReadTable}
 
 unfoldable pub tableRead : List ℕ → ReadTable
 tableRead s = tableClosed (read (begun false) s)

@@ -1,3 +1,4 @@
 pub mod Walks
 pub mod Numbers
 pub mod Settled
+pub mod Making

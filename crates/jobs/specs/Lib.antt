@@ -1,2 +1,3 @@
 pub mod Jobs
 pub mod Sets
+pub mod WellMade

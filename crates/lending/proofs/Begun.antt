@@ -12,9 +12,9 @@ use Rattle.tasks.specs.declared.Refusal.the-variants.{NoPlanShape}
 use Rattle.tasks.proofs.Answers.{accepted-not}
 use Rattle.bounds.specs.Leaves.{Moderate}
 use Rattle.plans.specs.Pieces.{taskOf, pieceOf, earlier}
-use Rattle.shapes.specs.Shape.{checkedPlan}
+use Rattle.plans.specs.Shape.{checkedPlan}
 use Rattle.plans.specs.declared.Plan.{Plan}
-use Rattle.shapes.proofs.InShape.{GoodPlan, accepted-plan, earlier-within, fits}
+use Rattle.plans.proofs.InShape.{GoodPlan, accepted-plan, earlier-within, fits}
 use Rattle.bounds.proofs.Accepted.{plan-moderate}
 use Rattle.lending.specs.Adding.{askedOf, begun, beginOf}
 

@@ -15,12 +15,12 @@ use Rattle.tasks.specs.declared.Table.{Table}
 use Rattle.tasks.specs.declared.Task.{Task}
 use Rattle.bounds.specs.Asking.{boundAsked}
 use Rattle.plans.specs.Pieces.{noPiece, taskOf, pieceOf, SamePlan}
-use Rattle.shapes.specs.Shape.{shape, checkedPlan}
+use Rattle.plans.specs.Shape.{shape, checkedPlan}
 use Rattle.plans.specs.declared.Piece.{Piece}
 use Rattle.plans.specs.declared.Plan.{Plan}
-use Rattle.shapes.proofs.InShape.{accepted-plan}
+use Rattle.plans.proofs.InShape.{accepted-plan}
 use Rattle.bounds.proofs.Accepted.{plan-moderate, asked-refused}
-use Rattle.shapes.proofs.SamePlans.{checked-same}
+use Rattle.plans.proofs.SamePlans.{checked-same}
 use Rattle.lending.specs.Adding.{lentPiece, upTo, unplacedOf, placedOn}
 use Rattle.lending.specs.Lent.{lentPlan}
 use Rattle.lending.proofs.SameBounds.{asked-same}

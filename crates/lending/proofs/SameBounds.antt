@@ -15,12 +15,12 @@ use Rattle.bounds.specs.Bound.{localDeadline, load, bound}
 use Rattle.plans.specs.Interference.{interference}
 use Rattle.plans.specs.Pieces.{taskOf, pieceOf, SamePlan}
 use Rattle.plans.specs.Rank.{above}
-use Rattle.shapes.specs.Shape.{checkedPlan}
+use Rattle.plans.specs.Shape.{checkedPlan}
 use Rattle.plans.specs.declared.Piece.{Piece}
 use Rattle.plans.specs.declared.Plan.{Plan}
-use Rattle.shapes.proofs.InShape.{accepted-plan, fits}
+use Rattle.plans.proofs.InShape.{accepted-plan, fits}
 use Rattle.bounds.proofs.Accepted.{asked-refused, asked-past, asked-known}
-use Rattle.shapes.proofs.SamePlans.{costs-same, checked-same}
+use Rattle.plans.proofs.SamePlans.{costs-same, checked-same}
 use Rattle.lending.specs.Lent.{lentPlan, boundLent}
 
 -- the interference of the pieces ranked above b is the same where the first n pieces are

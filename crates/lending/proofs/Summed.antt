@@ -16,7 +16,7 @@ use Rattle.bounds.specs.Bound.{localDeadline, load, bound}
 use Rattle.plans.specs.Margins.{margin}
 use Rattle.bounds.specs.Leaves.{Moderate}
 use Rattle.plans.specs.Pieces.{taskOf, pieceOf, SamePlan}
-use Rattle.shapes.specs.Shape.{checkedPlan}
+use Rattle.plans.specs.Shape.{checkedPlan}
 use Rattle.bounds.specs.declared.Bounding.the-variants as bounding
 use Rattle.plans.specs.declared.Piece.{Piece}
 use Rattle.plans.specs.declared.Plan.{Plan}

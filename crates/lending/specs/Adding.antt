@@ -15,7 +15,7 @@ use Rattle.plans.specs.Margins.{margin}
 use Rattle.plans.specs.Interference.{interference}
 use Rattle.plans.specs.Pieces.{noPiece, taskOf, pieceOf}
 use Rattle.plans.specs.Rank.{above}
-use Rattle.shapes.specs.Shape.{checkedPlan}
+use Rattle.plans.specs.Shape.{checkedPlan}
 use Rattle.bounds.specs.declared.Bounding.{Bounding}
 use Rattle.bounds.specs.declared.Bounding.the-variants.{Known}
 use Rattle.bounds.specs.declared.Bounding.the-variants as bounding

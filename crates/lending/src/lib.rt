@@ -70,7 +70,7 @@ fn place(mut plan: Plan, piece: Piece) -> Plan
 fn asked(plan: Plan, q: usize) -> Answer
     ensures { λ r. ⌜ r ≡ askedOf plan q ⌝ }
 {
-    let answer = shapes::check_plan(plan);
+    let answer = plans::check_plan(plan);
     match answer {
         Answer::Refused(_) => answer,
         Answer::Accepted => {

@@ -1,4 +1,5 @@
 // The plan lister: reads a table file from standard input and prints its plan, or why there is none.
+
 fn main() {
-    console::print(listing::lister(console::read_table()));
+    console::print(planlines::lister(console::read_table()));
 }

@@ -8,8 +8,8 @@ use borrow.Author.Tests.{eq-eqb, ne-eqb}
 use Rattle.bounds.specs.Bound.{localDeadline, bound}
 use Rattle.plans.specs.Pieces.{taskOf, pieceOf}
 use Rattle.plans.specs.declared.Plan.{Plan}
-use Rattle.layout.proofs.Limits.{limit-le}
-use Rattle.layout.specs.Limit.{allowance, limitOf}
+use Rattle.planner.proofs.Limits.{limit-le}
+use Rattle.planner.specs.Limit.{allowance, limitOf}
 
 -- a piece without a margin allows nothing
 pub no-margin : (w : Plan) (p q : ℕ) → localDeadline (taskOf w) (pieceOf w) q ≤ bound (taskOf w) (pieceOf w) (w .placed) q → allowance w p q ≡ 0

@@ -1,18 +1,18 @@
 -- Laws of the plan that a layout begins with, and what a draft that the layout reaches offers the searches.
 use Prim.Native.Nat.{ℕ, _+_, _≤_, _<_}
 use Rattle.bounds.specs.Bound.{localDeadline}
-use Rattle.layout.proofs.Drafts.{LaidBefore, start-task}
-use Rattle.layout.proofs.Keeps.{lay-keeps}
-use Rattle.layout.proofs.Put.{put-old, put-new}
-use Rattle.layout.proofs.Reached.{lay-ready, lay-few, lay-moderate}
-use Rattle.layout.specs.Layout.{start, laid, layFirst}
-use Rattle.layout.specs.Whole.{put, wholePiece}
-use Rattle.layout.specs.declared.Draft.{Draft}
+use Rattle.planner.proofs.Drafts.{LaidBefore, start-task}
+use Rattle.planner.proofs.Keeps.{lay-keeps}
+use Rattle.planner.proofs.Put.{put-old, put-new}
+use Rattle.planner.proofs.Reached.{lay-ready, lay-few, lay-moderate}
+use Rattle.planner.specs.Layout.{start, laid, layFirst}
+use Rattle.planner.specs.Whole.{put, wholePiece}
+use Rattle.planner.specs.declared.Draft.{Draft}
 use Rattle.plans.specs.Pieces.{noPiece, taskOf, pieceOf, costs}
 use Rattle.plans.specs.declared.Piece.{Piece}
 use Rattle.plans.specs.declared.Plan.{Plan}
-use Rattle.shapes.proofs.SamePlans.{costs-same}
-use Rattle.shapes.proofs.Shaped.{whole-first}
+use Rattle.plans.proofs.SamePlans.{costs-same}
+use Rattle.plans.proofs.Shaped.{whole-first}
 use Rattle.tasks.proofs.Padded.{padded-none, padded-more}
 use Rattle.tasks.proofs.Tables.{GoodTable, Ranges, accepted-good}
 use Rattle.tasks.specs.Below.{padded}

@@ -7,9 +7,9 @@ use Rattle.bounds.specs.Leaves.{Moderate}
 use Rattle.plans.specs.Pieces.{taskOf}
 use Rattle.plans.specs.declared.Piece.{Piece}
 use Rattle.plans.specs.declared.Plan.{Plan}
-use Rattle.layout.proofs.Drafts.{put-moderate}
+use Rattle.planner.proofs.Drafts.{put-moderate}
 use Rattle.planner.specs.Asked.{Ready}
-use Rattle.layout.specs.Whole.{put}
+use Rattle.planner.specs.Whole.{put}
 
 module _ (z : Piece) (w : Plan) (i : ℕ) (long : length (w .pieces) ≡ 128) (room : w .placed < 128) (r : Ready w i) (own : z .task .0 ≡ i) (cost : z .cost ≤ taskOf w i .cost) where
   pub stays-moderate : Moderate (put z w)

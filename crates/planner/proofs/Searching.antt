@@ -14,9 +14,9 @@ use Rattle.plans.specs.Pieces.{taskOf}
 use Rattle.plans.specs.declared.Plan.{Plan}
 use Rattle.planner.proofs.Putting.{stays-ready}
 use Rattle.planner.specs.Asked.{Ready}
-use Rattle.layout.specs.Limit.{limitOf}
-use Rattle.layout.specs.Shared.{sharePiece, giveShare, close, shareFrom}
-use Rattle.layout.specs.Whole.{put, draft, isClosed}
+use Rattle.planner.specs.Limit.{limitOf}
+use Rattle.planner.specs.Shared.{sharePiece, giveShare, close, shareFrom}
+use Rattle.planner.specs.Whole.{put, draft, isClosed}
 
 -- at core x of m, with w, shut and need come from `plan` and `closed`, what is left to do is what the whole search does
 pub record Sharing (plan : Plan) (closed : List Bool) (i m p need : ℕ) (w : Plan) (shut : List Bool) (x : ℕ) : Type 0 where

@@ -8,11 +8,11 @@ use lib.Seq.{set-set}
 use Rattle.tasks.proofs.Bools.{clash}
 use Rattle.bounds.specs.Bound.{localDeadline, load, bound}
 use Rattle.plans.specs.Pieces.{taskOf, pieceOf}
-use Rattle.shapes.specs.Shape.{isShare}
+use Rattle.plans.specs.Shape.{isShare}
 use Rattle.plans.specs.declared.Piece.{Piece}
 use Rattle.plans.specs.declared.Plan.{Plan}
 use Rattle.planner.specs.Asked.{OwnDeadlines}
-use Rattle.layout.specs.Whole.{keepsBound}
+use Rattle.planner.specs.Whole.{keepsBound}
 
 other : (share here keeps : Bool) → not share && here ≡ false → not here || share || keeps ≡ true
 other true true k h = refl

@@ -6,10 +6,10 @@ use Prim.Native.Nat.{ℕ, _≤_, _<_}
 use Rattle.bounds.specs.Bound.{localDeadline}
 use Rattle.bounds.specs.Leaves.{Moderate}
 use Rattle.plans.specs.Pieces.{taskOf, pieceOf}
-use Rattle.shapes.specs.Shape.{isShare}
+use Rattle.plans.specs.Shape.{isShare}
 use Rattle.plans.specs.declared.Plan.{Plan}
-use Rattle.layout.specs.Whole.{put, wholePiece}
-use Rattle.layout.specs.declared.Draft.{Draft}
+use Rattle.planner.specs.Whole.{put, wholePiece}
+use Rattle.planner.specs.declared.Draft.{Draft}
 
 pub record Ready (w : Plan) (i : ℕ) : Type 0 where
   pub moderate : Moderate w

@@ -1,1 +1,5 @@
+pub mod Limit
+pub mod Whole
+pub mod Shared
+pub mod Layout
 pub mod Asked

@@ -6,17 +6,16 @@ ghost use lib.Dec.{eqb};
 ghost use Rattle.tasks.specs.Below.{all, first};
 ghost use Rattle.bounds.specs.Leaves.{Moderate};
 ghost use Rattle.plans.specs.Pieces.{taskOf};
-ghost use Rattle.shapes.specs.Shape.{isShare};
-ghost use Rattle.layout.specs.Layout as layouts;
-ghost use Rattle.layout.specs.Layout.{noPlan, start, layFirst, outcome};
-ghost use Rattle.layout.specs.Limit as limits;
+ghost use Rattle.plans.specs.Shape.{isShare};
 ghost use Rattle.tasks.specs.Tables.{checkedTable};
 ghost use Rattle.tasks.specs.declared.Answer.the-variants.{Accepted};
-ghost use Rattle.layout.specs.Shared.{sharePiece, shareFrom};
-ghost use Rattle.layout.specs.Whole as whole;
+ghost use Rattle.planner.specs.Layout as layouts;
+ghost use Rattle.planner.specs.Layout.{noPlan, start, layFirst, outcome};
+ghost use Rattle.planner.specs.Limit as limits;
+ghost use Rattle.planner.specs.Shared.{sharePiece, shareFrom};
+ghost use Rattle.planner.specs.Whole as whole;
 ghost use Rattle.planner.specs.Asked.{Ready, OwnDeadlines, Alone, found};
-ghost use Rattle.layout.specs.Whole.{draft, keepsBound, takesWhole};
-use layout::Planned;
+ghost use Rattle.planner.specs.Whole.{draft, keepsBound, takesWhole};
 use plans::Kind;
 use plans::Piece;
 use plans::Plan;
@@ -26,6 +25,18 @@ use tasks::Refusal;
 use tasks::Table;
 use tasks::Task;
 use tasks::TaskNo;
+
+// A plan while it is laid out: its pieces so far, and which cores are closed.
+struct Draft {
+    plan: Plan,
+    closed: [bool; 16],
+}
+
+// What planning a table answers, and the plan. On a refusal the plan is all zeros.
+pub struct Planned {
+    pub answer: Answer,
+    pub plan: Plan,
+}
 
 // What sharing a task out comes to: whether it is placed, and the draft then.
 struct Shared {
@@ -88,7 +99,7 @@ fn allowance(plan: Plan, p: u32, q: usize) -> u32
     requires { ⌜ (0 < p) × (p ≤ 1000000) × (q < plan .placed) × Moderate plan ⌝ }
     ensures { λ r. ⌜ (r ≡ limits.allowance plan p q) × (r ≤ 1000000) ⌝ }
 {
-    let b = asking::bound_of(plan, q);
+    let b = bounds::bound_of(plan, q);
     if b.deadline <= b.bound {
         return 0;
     }
@@ -291,7 +302,7 @@ fn lay_out(table: Table) -> Planned
 pub fn plan_table(table: Table) -> Planned
     ensures { λ r. ⌜ r ≡ layouts.planned table ⌝ }
 {
-    let answer = tables::check_table(table);
+    let answer = tasks::check_table(table);
     match answer {
         Answer::Refused(r) => refused(r),
         Answer::Accepted => lay_out(table),

@@ -2,3 +2,4 @@ pub mod Pieces
 pub mod Interference
 pub mod Rank
 pub mod Margins
+pub mod Shape

@@ -11,17 +11,17 @@ use Rattle.tasks.specs.declared.Refusal.{Refusal}
 use Rattle.tasks.specs.declared.Refusal.the-variants.{NotRun, TooSoon, StillActive}
 use Rattle.tasks.specs.declared.TaskNo.{TaskNo}
 use Rattle.tasks.proofs.Answers.{accepted-not}
-use Rattle.shapes.specs.Shape.{checkedPlan}
+use Rattle.plans.specs.Shape.{checkedPlan}
 use Rattle.plans.specs.declared.Plan.{Plan}
-use Rattle.sets.specs.Refusing.{notRun, tooSoon, stillActive, lowest, judgedSets}
+use Rattle.dispatch.specs.Refusing.{notRun, tooSoon, stillActive, lowest, judgedSets}
 use Rattle.dispatch.specs.Tick.{judged}
-use Rattle.rules.specs.Rules.{finish}
+use Rattle.dispatch.specs.Rules.{finish}
 use Rattle.jobs.specs.Sets.{member}
-use Rattle.rules.specs.States.{wellMade}
-use Rattle.rules.specs.declared.State.{State}
+use Rattle.dispatch.specs.States.{wellMade}
+use Rattle.dispatch.specs.declared.State.{State}
 use Rattle.jobs.specs.declared.Tasks.{Tasks}
-use Rattle.rules.proofs.Checked.{both-accepted}
-use Rattle.dispatch.proofs.Checked.{Taken, taken}
+use Rattle.dispatch.proofs.Checked.{both-accepted}
+use Rattle.dispatch.proofs.CheckedTick.{Taken, taken}
 
 no-refusal : (b : Bool) (r : Refusal) (a : Answer) → cond b (Refused r) a ≡ Accepted → b ≡ false
 no-refusal true r a h = accepted-not h

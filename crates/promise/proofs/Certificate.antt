@@ -4,11 +4,11 @@ use mathlib.Core.Bool.{true}
 use mathlib.Core.List.{List}
 use Prim.Native.Nat.{ℕ, _+_, _<_}
 use Rattle.tasks.specs.declared.Answer.the-variants.{Accepted}
-use Rattle.shapes.proofs.InShape.{accepted-plan}
+use Rattle.plans.proofs.InShape.{accepted-plan}
 use Rattle.plans.specs.Pieces.{pieceOf, earlier}
-use Rattle.shapes.specs.Shape.{isLast, checkedPlan}
+use Rattle.plans.specs.Shape.{isLast, checkedPlan}
 use Rattle.plans.specs.declared.Plan.{Plan}
-use Rattle.rules.specs.States.{jobOf}
+use Rattle.dispatch.specs.States.{jobOf}
 use Rattle.schedules.specs.Certificate.{Certificate}
 use Rattle.promise.specs.Demand3.{reached}
 use Rattle.schedules.specs.Model.{Model, Sound, active}

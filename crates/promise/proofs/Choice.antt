@@ -9,12 +9,12 @@ use Rattle.plans.specs.Pieces.{taskOf}
 use Rattle.plans.specs.Rank.{above}
 use Rattle.plans.specs.declared.Plan.{Plan}
 use Rattle.jobs.specs.Jobs.{isActive, names}
-use Rattle.rules.specs.States.{jobOf}
-use Rattle.rules.specs.Rules.{pieceAt, standsOn, highest}
+use Rattle.dispatch.specs.States.{jobOf}
+use Rattle.dispatch.specs.Rules.{pieceAt, standsOn, highest}
 use Rattle.jobs.specs.declared.Runner.{Runner}
 use Rattle.jobs.specs.declared.Runner.the-variants.{Idle, Runs}
-use Rattle.rules.specs.declared.State.{State}
-use Rattle.rules.proofs.Highest.{idle-none, runner-stands, runner-above}
+use Rattle.dispatch.specs.declared.State.{State}
+use Rattle.dispatch.proofs.Highest.{idle-none, runner-stands, runner-above}
 
 module _ (p : Plan) (s : State) where
   -- of the first k tasks, t's job stands on core x, and its piece is ranked above that of every other job there

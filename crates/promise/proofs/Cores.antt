@@ -9,18 +9,18 @@ use lib.Dec.{ltb}
 use lib.ListN.{getD, replicate}
 use Rattle.tasks.proofs.Bools.{clash}
 use Rattle.tasks.proofs.Tabulate.{replicate-at}
-use Rattle.shapes.proofs.InShape.{GoodPlan, accepted-plan}
+use Rattle.plans.proofs.InShape.{GoodPlan, accepted-plan}
 use Rattle.plans.specs.Pieces.{pieceOf}
 use Rattle.plans.specs.declared.Plan.{Plan}
 use Rattle.jobs.specs.Jobs.{noRun, isActive, names}
-use Rattle.rules.specs.States.{jobOf, lastOf}
-use Rattle.rules.specs.Rules.{pieceAt}
+use Rattle.dispatch.specs.States.{jobOf, lastOf}
+use Rattle.dispatch.specs.Rules.{pieceAt}
 use Rattle.jobs.specs.Sets.{member}
 use Rattle.jobs.specs.declared.CoreRun.{CoreRun}
 use Rattle.jobs.specs.declared.Job.{Job}
 use Rattle.jobs.specs.declared.Phase.{Phase}
 use Rattle.jobs.specs.declared.Phase.the-variants.{Never, Active, Ended}
-use Rattle.rules.specs.declared.State.{State}
+use Rattle.dispatch.specs.declared.State.{State}
 use Rattle.dispatch.proofs.Kept.{ready, next-last, next-past}
 use Rattle.promise.specs.Demand3.{OneCore, CoresRise}
 use Rattle.schedules.specs.Model.{Stage, never, active, ended, older, onward, finish, run}

@@ -6,16 +6,16 @@ use Prim.Native.Nat.{ℕ}
 use native.Mathlib.Omega.{arith}
 use Rattle.tasks.specs.declared.Answer.the-variants.{Accepted}
 use Rattle.tasks.specs.declared.Table.{Table}
-use Rattle.shapes.proofs.InShape.{GoodPlan, accepted-plan}
+use Rattle.plans.proofs.InShape.{GoodPlan, accepted-plan}
 use Rattle.plans.proofs.Rank.{above-self, above-chain}
 use Rattle.bounds.specs.Bound.{localDeadline, load, bound}
 use Rattle.bounds.specs.Certificate.{Certified}
 use Rattle.plans.specs.Pieces.{taskOf, pieceOf}
-use Rattle.shapes.specs.Shape.{checkedPlan}
+use Rattle.plans.specs.Shape.{checkedPlan}
 use Rattle.plans.specs.declared.Plan.{Plan}
-use Rattle.layout.proofs.Certified.{planned-cores, planned-count, planned-tasks, planned-shape, planned-certified}
-use Rattle.layout.specs.Layout.{planned}
-use Rattle.rules.specs.States.{freshState}
+use Rattle.planner.proofs.Certified.{planned-cores, planned-count, planned-tasks, planned-shape, planned-certified}
+use Rattle.planner.specs.Layout.{planned}
+use Rattle.dispatch.specs.States.{freshState}
 use Rattle.schedules.specs.Certificate.{Certificate, Timely}
 use Rattle.promise.specs.Demand3.{Demand3, PlanOf}
 use Rattle.promise.specs.Requests.{after}

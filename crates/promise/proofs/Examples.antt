@@ -13,25 +13,25 @@ use Rattle.bounds.specs.Bound.{localDeadline, load, bound}
 use Rattle.plans.specs.Interference.{interference, periods}
 use Rattle.plans.specs.Pieces.{noPiece, costs}
 use Rattle.plans.specs.Rank.{above}
-use Rattle.shapes.specs.Shape.{follows, inOrder, isLast, pieceFits, shape, checkedPlan}
+use Rattle.plans.specs.Shape.{follows, inOrder, isLast, pieceFits, shape, checkedPlan}
 use Rattle.plans.specs.declared.Kind.{Kind}
 use Rattle.plans.specs.declared.Kind.the-variants.{Whole, Share}
 use Rattle.plans.specs.declared.Piece.{Piece}
 use Rattle.plans.specs.declared.Plan.{Plan}
-use Rattle.layout.specs.Layout.{start, place, layFirst, planned}
-use Rattle.layout.specs.Limit.{allowance, limitOf}
-use Rattle.layout.specs.Shared.{giveShare, close, shareFrom}
-use Rattle.layout.specs.Whole.{put, takesWhole}
-use Rattle.rules.specs.States.{freshState, wellMade}
-use Rattle.sets.specs.Refusing.{judgedSets, lowest}
+use Rattle.planner.specs.Layout.{start, place, layFirst, planned}
+use Rattle.planner.specs.Limit.{allowance, limitOf}
+use Rattle.planner.specs.Shared.{giveShare, close, shareFrom}
+use Rattle.planner.specs.Whole.{put, takesWhole}
+use Rattle.dispatch.specs.States.{freshState, wellMade}
+use Rattle.dispatch.specs.Refusing.{judgedSets, lowest}
 use Rattle.dispatch.specs.Tick.{judged, tick}
-use Rattle.rules.specs.Rules.{eachJob, finish, markLate, release, run, age, countPreempted, preempted, highest, firstPiece}
+use Rattle.dispatch.specs.Rules.{eachJob, finish, markLate, release, run, age, countPreempted, preempted, highest, firstPiece}
 use Rattle.jobs.specs.Sets.{member}
-use Rattle.rules.specs.Advance.{checked, nextState}
-use Rattle.made.specs.WellMade.{coreWellMade, jobWellMade}
+use Rattle.dispatch.specs.Advance.{checked, nextState}
+use Rattle.jobs.specs.WellMade.{coreWellMade, jobWellMade}
 use Rattle.jobs.specs.declared.Runner.{Runner}
 use Rattle.jobs.specs.declared.Runner.the-variants.{Runs}
-use Rattle.rules.specs.declared.State.{State}
+use Rattle.dispatch.specs.declared.State.{State}
 use Rattle.jobs.specs.declared.Tasks.{Tasks}
 use Rattle.promise.specs.Demand3.{Demand3}
 use Rattle.promise.specs.Requests.{Request, asked, namedOn}

@@ -10,23 +10,23 @@ use borrow.Author.Tests.{eq-eqb, ne-eqb, eqb-true, eqb-false, ltb-false, not-fal
 use Rattle.tasks.proofs.Below.{any-found, any-make, any-none, any-same, Found}
 use Rattle.tasks.proofs.Bools.{both, both-make, clash, neither}
 use Rattle.tasks.specs.Below.{any}
-use Rattle.shapes.proofs.InShape.{GoodPlan}
+use Rattle.plans.proofs.InShape.{GoodPlan}
 use Rattle.plans.proofs.Rank.{above-core, above-one-way, above-self}
 use Rattle.plans.specs.Pieces.{taskOf, pieceOf}
 use Rattle.plans.specs.Rank.{above}
 use Rattle.plans.specs.declared.Piece.{Piece}
 use Rattle.plans.specs.declared.Plan.{Plan}
 use Rattle.jobs.specs.Jobs.{isActive, onceReleased, names}
-use Rattle.rules.specs.States.{jobOf}
-use Rattle.rules.specs.Rules.{pieceAt, standsOn, highest, runsNow, finish}
+use Rattle.dispatch.specs.States.{jobOf}
+use Rattle.dispatch.specs.Rules.{pieceAt, standsOn, highest, runsNow, finish}
 use Rattle.jobs.specs.Sets.{member}
-use Rattle.rules.specs.Advance.{nextState}
+use Rattle.dispatch.specs.Advance.{nextState}
 use Rattle.jobs.specs.declared.Job.{Job}
 use Rattle.jobs.specs.declared.Phase.{Phase}
 use Rattle.jobs.specs.declared.Phase.the-variants.{Never, Active, Ended}
 use Rattle.jobs.specs.declared.Runner.{Runner}
 use Rattle.jobs.specs.declared.Runner.the-variants.{Idle, Runs}
-use Rattle.rules.specs.declared.State.{State}
+use Rattle.dispatch.specs.declared.State.{State}
 use Rattle.jobs.specs.declared.Tasks.{Tasks}
 use Rattle.schedules.specs.Model as model
 use Rattle.schedules.specs.Model.{Stage, at, May}

@@ -8,23 +8,23 @@ use lib.Dec.{leb, ltb, eqb}
 use borrow.Author.Tests.{ltb-true, eqb-true, leb-true}
 use Rattle.tasks.proofs.Below.{all-each}
 use Rattle.tasks.proofs.Bools.{both, clash}
-use Rattle.shapes.proofs.InShape.{GoodPlan, plan-accepted}
+use Rattle.plans.proofs.InShape.{GoodPlan, plan-accepted}
 use Rattle.plans.specs.Pieces.{taskOf, pieceOf}
-use Rattle.shapes.specs.Shape.{isLast}
+use Rattle.plans.specs.Shape.{isLast}
 use Rattle.plans.specs.declared.Plan.{Plan}
 use Rattle.jobs.specs.Jobs.{isActive}
-use Rattle.rules.specs.States.{jobOf, wellMade}
-use Rattle.rules.specs.Rules.{endedJob, finishedJob, turnsLate, markedJob, firstPiece, releasedJob, runsNow, ranJob, agedJob, finish, markLate}
+use Rattle.dispatch.specs.States.{jobOf, wellMade}
+use Rattle.dispatch.specs.Rules.{endedJob, finishedJob, turnsLate, markedJob, firstPiece, releasedJob, runsNow, ranJob, agedJob, finish, markLate}
 use Rattle.jobs.specs.Sets.{member}
-use Rattle.rules.specs.Advance.{nextState}
-use Rattle.made.specs.WellMade.{ageFits, pieceExists, jobWellMade}
+use Rattle.dispatch.specs.Advance.{nextState}
+use Rattle.jobs.specs.WellMade.{ageFits, pieceExists, jobWellMade}
 use Rattle.jobs.specs.declared.Job.{Job}
 use Rattle.jobs.specs.declared.Phase.{Phase}
 use Rattle.jobs.specs.declared.Phase.the-variants.{Never, Active, Ended}
-use Rattle.rules.specs.declared.State.{State}
+use Rattle.dispatch.specs.declared.State.{State}
 use Rattle.jobs.specs.declared.Tasks.{Tasks}
-use Rattle.rules.proofs.Checked.{Good, good}
-use Rattle.rules.proofs.Steps.{finish-in, mark-in, release-in}
+use Rattle.dispatch.proofs.Checked.{Good, good}
+use Rattle.dispatch.proofs.Steps.{finish-in, mark-in, release-in}
 use Rattle.dispatch.proofs.Kept.{ready, next-job}
 use Rattle.schedules.specs.Model as model
 use Rattle.promise.specs.View.{stageOf, modelOf}

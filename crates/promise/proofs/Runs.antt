@@ -13,19 +13,19 @@ use Rattle.tasks.specs.declared.Answer.{Answer}
 use Rattle.tasks.specs.declared.Answer.the-variants.{Accepted, Refused}
 use Rattle.tasks.specs.declared.Refusal.{Refusal}
 use Rattle.tasks.proofs.Tabulate.{replicate-at}
-use Rattle.shapes.proofs.InShape.{GoodPlan}
+use Rattle.plans.proofs.InShape.{GoodPlan}
 use Rattle.plans.specs.Pieces.{taskOf, pieceOf}
 use Rattle.plans.specs.declared.Plan.{Plan}
 use Rattle.jobs.specs.Jobs.{noJob, noRun, names}
-use Rattle.rules.specs.States.{jobOf, freshState}
+use Rattle.dispatch.specs.States.{jobOf, freshState}
 use Rattle.dispatch.specs.Tick.{judged, answered, tick}
-use Rattle.rules.specs.Rules.{eachJob, total, turnsLate, finish, markLate, release, run, age, countPreempted}
+use Rattle.dispatch.specs.Rules.{eachJob, total, turnsLate, finish, markLate, release, run, age, countPreempted}
 use Rattle.jobs.specs.Sets.{member}
-use Rattle.rules.specs.Advance.{nextState}
+use Rattle.dispatch.specs.Advance.{nextState}
 use Rattle.jobs.specs.declared.CoreRun.{CoreRun}
 use Rattle.jobs.specs.declared.Phase.{Phase}
 use Rattle.jobs.specs.declared.Phase.the-variants.{Never, Active, Ended}
-use Rattle.rules.specs.declared.State.{State}
+use Rattle.dispatch.specs.declared.State.{State}
 use Rattle.jobs.specs.declared.Tasks.{Tasks}
 use Rattle.dispatch.specs.declared.Ticked.{Ticked}
 use Rattle.schedules.specs.Certificate.{Certificate, Timely}

@@ -5,13 +5,13 @@ use Prim.Native.Nat.{ℕ, suc, _+_, _≤_, _<_}
 use native.Mathlib.Omega.{arith}
 use borrow.Author.Tests.{eq-eqb}
 use Rattle.tasks.proofs.Below.{first-le}
-use Rattle.shapes.proofs.InShape.{GoodPlan, fits, follower, earlier-within, Begins, begins}
-use Rattle.shapes.proofs.Shaped.{Fits}
+use Rattle.plans.proofs.InShape.{GoodPlan, fits, follower, earlier-within, Begins, begins}
+use Rattle.plans.proofs.Shaped.{Fits}
 use Rattle.plans.proofs.Costs.{costs-own}
 use Rattle.plans.specs.Pieces.{taskOf, pieceOf, costs}
-use Rattle.shapes.specs.Shape.{isLast}
+use Rattle.plans.specs.Shape.{isLast}
 use Rattle.plans.specs.declared.Plan.{Plan}
-use Rattle.rules.specs.Rules.{firstPiece}
+use Rattle.dispatch.specs.Rules.{firstPiece}
 use Rattle.schedules.specs.Model.{Sound}
 use Rattle.promise.specs.View.{modelOf}
 

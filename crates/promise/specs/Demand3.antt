@@ -10,10 +10,10 @@ use Rattle.tasks.specs.declared.Table.{Table}
 use Rattle.plans.specs.Pieces.{taskOf}
 use Rattle.plans.specs.declared.Plan.{Plan}
 use Rattle.jobs.specs.Jobs.{names}
-use Rattle.rules.specs.States.{freshState, jobOf}
+use Rattle.dispatch.specs.States.{freshState, jobOf}
 use Rattle.jobs.specs.Sets.{member}
 use Rattle.jobs.specs.declared.Phase.the-variants.{Ended}
-use Rattle.rules.specs.declared.State.{State}
+use Rattle.dispatch.specs.declared.State.{State}
 use Rattle.promise.specs.Requests.{Request, asked, accepts, after, namedOn, ticks, timesNamed, finishes, releases}
 
 -- the state of plan p that a list of requests leads to from the fresh one

@@ -11,7 +11,7 @@ use Rattle.jobs.specs.Jobs.{noRun, names}
 use Rattle.jobs.specs.Sets.{member}
 use Rattle.dispatch.specs.Tick.{tick}
 use Rattle.jobs.specs.declared.Runner.{Runner}
-use Rattle.rules.specs.declared.State.{State}
+use Rattle.dispatch.specs.declared.State.{State}
 use Rattle.jobs.specs.declared.Tasks.{Tasks}
 use Rattle.dispatch.specs.declared.Ticked.{Ticked}
 

@@ -4,15 +4,15 @@ use Prim.Native.Nat.{ℕ}
 use Rattle.tasks.specs.Below.{any}
 use Rattle.plans.specs.Pieces.{taskOf, pieceOf, earlier}
 use Rattle.plans.specs.Rank.{above}
-use Rattle.shapes.specs.Shape.{isLast}
+use Rattle.plans.specs.Shape.{isLast}
 use Rattle.plans.specs.declared.Plan.{Plan}
 use Rattle.jobs.specs.Jobs.{names}
-use Rattle.rules.specs.States.{jobOf, lastOf}
-use Rattle.rules.specs.Rules.{firstPiece}
+use Rattle.dispatch.specs.States.{jobOf, lastOf}
+use Rattle.dispatch.specs.Rules.{firstPiece}
 use Rattle.jobs.specs.declared.Job.{Job}
 use Rattle.jobs.specs.declared.Phase.{Phase}
 use Rattle.jobs.specs.declared.Phase.the-variants.{Never, Active, Ended}
-use Rattle.rules.specs.declared.State.{State}
+use Rattle.dispatch.specs.declared.State.{State}
 use Rattle.schedules.specs.Model.{Stage, never, active, ended, Model}
 use Rattle.schedules.specs.Moments.{Moment}
 

@@ -3,7 +3,7 @@ ghost use Prim.Native.Nat.{_≤_, _<_};
 ghost use lib.ListN.{length};
 use libc::STDIN_FILENO;
 use plans::Plan;
-use players::Player;
+use playback::Player;
 use tasks::Answer;
 use tasks::Place;
 use tasks::Refusal;
@@ -45,21 +45,21 @@ fn feed_some(mut player: Player) -> Fed {
 // All ticks of the input, from its byte `start` on, and the totals.
 // A proved loop has to end, and nothing says that an input does: the loop counts its turns down, from a number that no run uses up.
 fn replay(plan: Plan, start: usize) {
-    let mut player = players::start(start);
+    let mut player = playback::start(start);
     let mut more = true;
     let mut turns = u64::MAX;
     while turns > 0 && more {
         let fed = feed_some(player);
-        player = replays::play(fed.player, plan);
+        player = playback::play(fed.player, plan);
         console::print(player.text);
         more = fed.more;
         turns -= 1;
     }
-    let answer = players::last(player);
+    let answer = playback::last(player);
     if let Answer::Refused(refusal) = answer {
-        console::print(telling::refusal(Text::empty(), refusal));
+        console::print(texts::refusal(Text::empty(), refusal));
     }
-    console::print(lines::totals(Text::empty(), player.state));
+    console::print(ticklines::totals(Text::empty(), player.state));
 }
 
 fn wide(x: u8) -> usize
@@ -82,13 +82,13 @@ fn main() {
     let length = wide(file[0]) * 256 + wide(file[1]);
     let is_whole = fill(&mut file, length);
     if !is_told | !is_whole {
-        console::print(telling::refusal(Text::empty(), Refusal::CutShort(Place(0))));
+        console::print(texts::refusal(Text::empty(), Refusal::CutShort(Place(0))));
         return;
     }
     let read = console::plan_in(&file, length);
     let answer = read.answer;
     match answer {
         Answer::Accepted => replay(read.plan, 2 + length),
-        Answer::Refused(refusal) => console::print(telling::refusal(Text::empty(), refusal)),
+        Answer::Refused(refusal) => console::print(texts::refusal(Text::empty(), refusal)),
     }
 }

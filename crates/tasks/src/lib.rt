@@ -1,8 +1,11 @@
-// The vocabulary of task tables: numbers of tasks and cores, tasks, tables, and every way to say no.
+// The vocabulary of task tables: numbers of tasks and cores, tasks, tables, every way to say no, and the check of a table.
 ghost use mathlib.Core.Path.{_≡_};
+ghost use mathlib.Core.Bool.{_&&_};
 ghost use Prim.Native.Nat.{_<_, min};
+ghost use lib.Dec.{leb};
+ghost use lib.ListN.{getD};
 ghost use Rattle.tasks.specs.Places.{further};
-ghost use Rattle.tasks.specs.Tables.{valuesFit};
+ghost use Rattle.tasks.specs.Tables.{valuesFit, noTask, checkedTasks, checkedTable};
 
 // A task's number in table order: document 004's T. Never a core's.
 pub struct TaskNo(pub u8);
@@ -103,4 +106,44 @@ pub fn values_fit(t: Task) -> bool
         return false;
     }
     t.period <= 1000000
+}
+
+// ---- The check of a table.
+
+// 1 to `most`.
+fn counts(x: usize, most: usize) -> bool
+    ensures { λ r. ⌜ r ≡ leb 1 x && leb x most ⌝ }
+{
+    if x < 1 {
+        return false;
+    }
+    x <= most
+}
+
+// Core count, number of tasks and values, in this order: 4, 6 and 5.
+pub fn check_tasks(cores: usize, count: usize, tasks: [Task; 64]) -> Answer
+    ensures { λ r. ⌜ r ≡ checkedTasks cores count (λ i. getD tasks i noTask) ⌝ }
+{
+    if !counts(cores, 16) {
+        return Answer::Refused(Refusal::CoresGiven(cores));
+    }
+    if !counts(count, 64) {
+        return Answer::Refused(Refusal::TasksGiven(count));
+    }
+    let mut i = 0;
+    while i < count {
+        if !values_fit(tasks[i]) {
+            return Answer::Refused(Refusal::ValuesOf(TaskNo(i as u8)));
+        }
+        i += 1;
+    }
+    Answer::Accepted
+}
+
+// Is this a good table? Any record at all may be given.
+pub fn check_table(table: Table) -> Answer
+    ensures { λ r. ⌜ r ≡ checkedTable table ⌝ }
+{
+    let tasks = table.tasks;
+    check_tasks(table.cores, table.count, tasks)
 }

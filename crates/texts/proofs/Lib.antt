@@ -1,3 +1,4 @@
 pub mod Putting
 pub mod Whole
+pub mod WholeLine
 pub mod Settled

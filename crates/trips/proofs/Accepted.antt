@@ -21,10 +21,10 @@ use Rattle.plans.specs.declared.Plan.{Plan}
 use Rattle.writing.specs.Fields.{coreField, taskField, pieceField}
 use Rattle.tasks.specs.Places.{further}
 use Rattle.tasks.proofs.Places.{further-is}
-use Rattle.fields.specs.Fields.{tag, lengthFor, taskIn, pieceIn, verdict, hold, fieldAt, pieceTaken, nextField, withCores, withTask, withPiece, added, settled, step, read}
-use Rattle.fields.specs.declared.Field.{Field}
-use Rattle.fields.specs.declared.Reader.{Reader}
-use Rattle.fields.proofs.Fields.{reader, next-other, cores-added, task-added, read-refused, step-good, settled-bad, good-room}
+use Rattle.files.specs.Fields.{tag, lengthFor, taskIn, pieceIn, verdict, hold, fieldAt, pieceTaken, nextField, withCores, withTask, withPiece, added, settled, step, read}
+use Rattle.files.specs.declared.Field.{Field}
+use Rattle.files.specs.declared.Reader.{Reader}
+use Rattle.files.proofs.Fields.{reader, next-other, cores-added, task-added, read-refused, step-good, settled-bad, good-room}
 use Rattle.trips.proofs.Taken.{piece-room, piece-kind, Found, good-found, waits-short, tag-cases, cores-good, values-good, core-text, task-text, piece-text}
 use Rattle.trips.proofs.ReadBack.{hold-is, length-most}
 

@@ -10,8 +10,8 @@ use Rattle.tasks.specs.declared.Refusal.the-variants.{CutShort, WrongTag, Wrong
 use Rattle.tasks.specs.declared.Table.{Table}
 use Rattle.writing.specs.Fields.{tableBytes, tasksBytes, coreField, taskField}
 use Rattle.tasks.specs.Places.{placeAt, further}
-use Rattle.fields.specs.Fields.{read, step, verdict, hold, tagFits, values, nextField, added}
-use Rattle.reading.specs.Reading.{refusal, ended, tableClosed}
+use Rattle.files.specs.Fields.{read, step, verdict, hold, tagFits, values, nextField, added}
+use Rattle.files.specs.Reading.{refusal, ended, tableClosed}
 use Rattle.files.specs.Files.{tableRead}
 
 abbrev example : List ℕ

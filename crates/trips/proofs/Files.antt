@@ -20,13 +20,13 @@ use Rattle.tasks.specs.declared.Refusal.the-variants.{NoPlanShape}
 use Rattle.tasks.specs.declared.Table.{Table}
 use Rattle.tasks.proofs.Answers.{accepted-not}
 use Rattle.plans.specs.Pieces.{noPiece, taskOf, pieceOf}
-use Rattle.shapes.specs.Shape.{checkedPlan, shape}
+use Rattle.plans.specs.Shape.{checkedPlan, shape}
 use Rattle.plans.specs.declared.Plan.{Plan}
 use Rattle.writing.specs.Fields.{coreField, taskField, tasksBytes, tableBytes, planBytes}
-use Rattle.fields.specs.Fields.{fieldAt, refusedField, read}
-use Rattle.reading.specs.Reading.{defaultCores, begun, emptyPlan, refusal, movedTo, ended, fieldsAnswer, endedAfter, planEnded, tableAnswered, planAnswered, tableClosed, planClosed}
+use Rattle.files.specs.Fields.{fieldAt, refusedField, read}
+use Rattle.files.specs.Reading.{defaultCores, begun, emptyPlan, refusal, movedTo, ended, fieldsAnswer, endedAfter, planEnded, tableAnswered, planAnswered, tableClosed, planClosed}
 use Rattle.files.specs.Files.{tableRead, planRead}
-use Rattle.fields.specs.declared.Field.{Field}
+use Rattle.files.specs.declared.Field.{Field}
 use Rattle.trips.proofs.Accepted.{told, Content, Held, read-held, cleared, zero-byte}
 
 -- a lent slice: each byte is below 256, and the length fits a machine word

@@ -4,7 +4,7 @@ use Prim.Native.Nat.{ℕ, _<_}
 use native.Mathlib.Omega.{arith}
 use Rattle.tasks.proofs.Tables.{Ranges, GoodTable}
 use Rattle.tasks.specs.declared.Task.{Task}
-use Rattle.shapes.proofs.InShape.{GoodPlan, fits, earlier-within}
+use Rattle.plans.proofs.InShape.{GoodPlan, fits, earlier-within}
 use Rattle.plans.specs.Pieces.{taskOf, pieceOf}
 use Rattle.plans.specs.declared.Plan.{Plan}
 

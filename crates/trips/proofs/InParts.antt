@@ -3,10 +3,10 @@ use mathlib.Core.Path.{_≡_, refl, ap}
 use mathlib.Core.Bool.{true, false}
 use mathlib.Core.List.{List, [], _∷_, _++_}
 use Prim.Native.Nat.{ℕ}
-use Rattle.fields.specs.Fields.{step, read}
-use Rattle.reading.specs.Reading.{begun, tableClosed, planClosed}
+use Rattle.files.specs.Fields.{step, read}
+use Rattle.files.specs.Reading.{begun, tableClosed, planClosed}
 use Rattle.files.specs.Files.{tableRead, planRead}
-use Rattle.fields.specs.declared.Reader.{Reader}
+use Rattle.files.specs.declared.Reader.{Reader}
 
 pub read-parts : (r : Reader) (a b : List ℕ) → read (read r a) b ≡ read r (a ++ b)
 unfolding read

@@ -16,13 +16,13 @@ use Rattle.plans.specs.declared.Kind.the-variants.{Whole, Share}
 use Rattle.plans.specs.declared.Piece.{Piece}
 use Rattle.plans.specs.declared.Plan.{Plan}
 use Rattle.tasks.specs.Places.{further}
-use Rattle.fields.specs.Fields.{number2, number4, tag, tagFits, lengthFor, kindOf, values, verdict, hold, fieldAt, pieceTaken, nextField, withTask, withPiece, added, settled, step, read}
-use Rattle.reading.specs.Reading.{begun, emptyPlan}
+use Rattle.files.specs.Fields.{number2, number4, tag, tagFits, lengthFor, kindOf, values, verdict, hold, fieldAt, pieceTaken, nextField, withTask, withPiece, added, settled, step, read}
+use Rattle.files.specs.Reading.{begun, emptyPlan}
 use Rattle.writing.specs.Fields.{bytes4, kindByte, coreField, taskField, pieceField}
-use Rattle.fields.specs.declared.Field.{Field}
-use Rattle.fields.specs.declared.Reader.{Reader}
+use Rattle.files.specs.declared.Field.{Field}
+use Rattle.files.specs.declared.Reader.{Reader}
 use Rattle.trips.proofs.Numbers.{number-back}
-use Rattle.fields.proofs.Fields.{reader, body-waits, body-whole, step-good, hold-bad}
+use Rattle.files.proofs.Fields.{reader, body-waits, body-whole, step-good, hold-bad}
 
 -- a byte more, where there is room for it
 pub hold-is : (f : Field) (b : ℕ) → f .count < 15

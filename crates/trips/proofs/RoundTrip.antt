@@ -15,22 +15,22 @@ use Rattle.tasks.specs.declared.Answer.the-variants.{Accepted}
 use Rattle.tasks.specs.declared.Task.{Task}
 use Rattle.tasks.specs.declared.Table.{Table}
 use Rattle.plans.specs.Pieces.{noPiece, taskOf, pieceOf, SamePlan, CleanPlan}
-use Rattle.shapes.proofs.SamePlans.{shape-same}
-use Rattle.shapes.proofs.InShape.{GoodPlan, accepted-plan, tests, plan-accepted}
-use Rattle.shapes.specs.Shape.{checkedPlan}
+use Rattle.plans.proofs.SamePlans.{shape-same}
+use Rattle.plans.proofs.InShape.{GoodPlan, accepted-plan, tests, plan-accepted}
+use Rattle.plans.specs.Shape.{checkedPlan}
 use Rattle.plans.specs.declared.Piece.{Piece}
 use Rattle.plans.specs.declared.Plan.{Plan}
 use Rattle.writing.specs.Fields.{coreField, taskField, pieceField, tasksBytes, tableBytes, planBytes}
 use Rattle.tasks.specs.Places.{further}
 use Rattle.tasks.proofs.Places.{further-is}
-use Rattle.fields.specs.Fields.{fieldAt, read}
-use Rattle.reading.specs.Reading.{begun, emptyPlan, ended, tableClosed, planEnded, planClosed}
+use Rattle.files.specs.Fields.{fieldAt, read}
+use Rattle.files.specs.Reading.{begun, emptyPlan, ended, tableClosed, planEnded, planClosed}
 use Rattle.files.specs.Files.{tableRead, planRead}
-use Rattle.fields.specs.declared.Field.{Field}
-use Rattle.fields.specs.declared.Reader.{Reader}
+use Rattle.files.specs.declared.Field.{Field}
+use Rattle.files.specs.declared.Reader.{Reader}
 use Rattle.trips.proofs.Good.{tasks-same, costs-fit}
 use Rattle.trips.proofs.ReadBack.{read-cores, read-task, read-piece}
-use Rattle.fields.proofs.Fields.{reader}
+use Rattle.files.proofs.Fields.{reader}
 use Rattle.trips.proofs.InParts.{read-parts}
 
 -- the record with these entries, and 0 past its counts

@@ -14,9 +14,9 @@ use Rattle.tasks.proofs.Bools.{both, clash}
 use Rattle.tasks.proofs.Padded.{tabulate-is}
 use Rattle.tasks.specs.Below.{tabulate}
 use Rattle.tasks.specs.Tables.{coresFit, valuesFit}
-use Rattle.fields.specs.Fields.{number2, number4, tag, tagFits, lengthFor, taskIn, pieceIn, kindOf, values, verdict, pieceTaken}
+use Rattle.files.specs.Fields.{number2, number4, tag, tagFits, lengthFor, taskIn, pieceIn, kindOf, values, verdict, pieceTaken}
 use Rattle.writing.specs.Fields.{bytes4, kindByte, coreField, taskField, pieceField}
-use Rattle.fields.specs.declared.Field.{Field}
+use Rattle.files.specs.declared.Field.{Field}
 use Rattle.trips.proofs.Numbers.{bytes-back}
 
 -- ---- what a verdict says

@@ -9,7 +9,7 @@ use lib.ListN.{length, getD, take, drop}
 use lib.Seq.{take-at}
 use borrow.Author.Tests.{eq-eqb}
 use Rattle.tasks.specs.Tables.{checkedTable}
-use Rattle.shapes.specs.Shape.{checkedPlan}
+use Rattle.plans.specs.Shape.{checkedPlan}
 use Rattle.tasks.specs.declared.Answer.{Answer}
 use Rattle.tasks.specs.declared.Answer.the-variants.{Accepted, Refused}
 use Rattle.tasks.specs.declared.Refusal.the-variants.{BufferShort}
@@ -18,8 +18,8 @@ use Rattle.plans.specs.declared.Plan.{Plan}
 use Rattle.writing.specs.Fields.{tableBytes, planBytes}
 use Rattle.files.specs.Files.{tableRead, planRead}
 use Rattle.writing.specs.Writing.{answered, filled, tableWritten, tableFilled, planWritten, planFilled}
-use Rattle.reading.specs.declared.ReadPlan.{ReadPlan}
-use Rattle.reading.specs.declared.ReadTable.{ReadTable}
+use Rattle.files.specs.declared.ReadPlan.{ReadPlan}
+use Rattle.files.specs.declared.ReadTable.{ReadTable}
 use Rattle.writing.specs.declared.Written.{Written}
 use Rattle.writing.specs.declared.Written.the-variants as written
 use Rattle.trips.proofs.Files.{Slice, table-written-again, table-is-good, plan-written-again, plan-is-good}

@@ -47,11 +47,11 @@ fn eight_cores() -> Table {
 
 fn show(table: Table) {
     let planned = planner::plan_table(table);
-    console::print(listing::planned(planned));
+    console::print(planlines::planned(planned));
     let answer = planned.answer;
     if let Answer::Accepted = answer {
         let plan = planned.plan;
-        console::print(responses::watched(plan, runs::watch(plan, 100000)));
+        console::print(ticklines::watched(plan, fullrate::watch(plan, 100000)));
     }
 }
 

@@ -19,9 +19,9 @@ use Rattle.tasks.specs.declared.Refusal.{Refusal}
 use Rattle.tasks.specs.declared.Refusal.the-variants.{BufferShort}
 use Rattle.tasks.specs.declared.Table.{Table}
 use Rattle.tasks.specs.declared.Task.{Task}
-use Rattle.shapes.proofs.InShape.{GoodPlan, accepted-plan, tests}
+use Rattle.plans.proofs.InShape.{GoodPlan, accepted-plan, tests}
 use Rattle.plans.specs.Pieces.{taskOf, pieceOf}
-use Rattle.shapes.specs.Shape.{checkedPlan}
+use Rattle.plans.specs.Shape.{checkedPlan}
 use Rattle.plans.specs.declared.Piece.{Piece}
 use Rattle.plans.specs.declared.Plan.{Plan}
 use Rattle.writing.specs.Fields.{coreField, taskField, pieceField, tasksBytes, tableBytes, planBytes}

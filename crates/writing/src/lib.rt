@@ -126,7 +126,7 @@ fn put_table(out: &mut [u8], cores: usize, count: usize, tasks: [Task; 64]) -> u
 pub fn write_table(table: Table, out: &mut [u8]) -> Written
     ensures { λ r. ⌜ (r ≡ tableWritten table (now (out .entry))) × (now (out .exit) ≡ tableFilled table (now (out .entry))) ⌝ }
 {
-    let answer = tables::check_table(table);
+    let answer = tasks::check_table(table);
     if let Answer::Refused(refusal) = answer {
         return Written::Refused(refusal);
     }
@@ -153,7 +153,7 @@ fn put_plan(out: &mut [u8], plan: Plan) -> usize
 pub fn write_plan(plan: Plan, out: &mut [u8]) -> Written
     ensures { λ r. ⌜ (r ≡ planWritten plan (now (out .entry))) × (now (out .exit) ≡ planFilled plan (now (out .entry))) ⌝ }
 {
-    let answer = shapes::check_plan(plan);
+    let answer = plans::check_plan(plan);
     if let Answer::Refused(refusal) = answer {
         return Written::Refused(refusal);
     }

@@ -33,12 +33,12 @@ use denote.Triple.Table.{entered, cited}
 use denote.Triple.Walked.{says, Stays, stay-ref, stay-none, walkOf, AllGo, goes-none, goes-ref, Walks, ends-at, walked, walk-meets}
 use denote.Exit.{yes}
 use Rattle.dispatch.specs.Tick.{tick as ticked}
-use Rattle.rules.specs.declared.State.{State}
+use Rattle.dispatch.specs.declared.State.{State}
 use Rattle.jobs.specs.declared.Tasks.{Tasks}
 use Rattle.dispatch.specs.declared.Ticked.{Ticked}
 use Rattle.plans.specs.declared.Plan.{Plan}
 use Rattle.board.specs.Ran.{ranOf}
-use Rattle.rules.proofs.State as S
+use Rattle.dispatch.proofs.State as S
 use Rattle.dispatch.proofs.tick.Symbol as tick-def
 use Rattle.dispatch.proofs.tick.Symbol.{name as #dispatch·tick}
 use Rattle.dispatch.proofs.tick.Met as tick-thm

@@ -1,9 +1,9 @@
 use mathlib.Core.Path.{_≡_, sym, _∙_}
 use borrow.Author.Needs.{needs}
 use Rattle.tasks.specs.declared.Answer.the-variants.{Accepted}
-use Rattle.rules.specs.Advance.{checked}
+use Rattle.dispatch.specs.Advance.{checked}
 use Rattle.dispatch.specs.Tick.{judged, tick}
-use Rattle.dispatch.proofs.Checked.{advance-answer, advance-next}
+use Rattle.dispatch.proofs.CheckedTick.{advance-answer, advance-next}
 use Rattle.dispatch.proofs.tick.Statement.{statement}
 use Rattle.dispatch.proofs.tick.Tie as tie
 

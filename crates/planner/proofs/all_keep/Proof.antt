@@ -12,7 +12,7 @@ use Rattle.bounds.specs.Bound as bounds
 use Rattle.plans.specs.Interference.{interference}
 use Rattle.plans.specs.Pieces.{taskOf, pieceOf}
 use Rattle.plans.specs.Rank.{above}
-use Rattle.layout.specs.Whole.{keepsBound}
+use Rattle.planner.specs.Whole.{keepsBound}
 use Rattle.planner.proofs.Trying.{keeps-other, keeps-own}
 use Rattle.planner.proofs.all_keep.Statement.{statement}
 use Rattle.planner.proofs.all_keep.Tie as tie

@@ -4,7 +4,7 @@ use native.Mathlib.Nat.{div-le-self, le-trans}
 use Rattle.plans.proofs.Interference.{some-period}
 use Rattle.bounds.proofs.Sums.{local-small}
 use Rattle.plans.specs.Interference.{periods}
-use Rattle.layout.specs.Limit.{allowance}
+use Rattle.planner.specs.Limit.{allowance}
 use Rattle.planner.proofs.Allowed.{no-margin}
 use borrow.Author.Needs.{needs}
 use Rattle.planner.proofs.allowance.Statement.{statement}

@@ -6,10 +6,10 @@ use mathlib.Core.Bool.{true, false}
 use lib.ListN.{replicate}
 use borrow.Author.Tests.{not-true, not-false}
 use Rattle.tasks.proofs.Tables.{accepted-good}
-use Rattle.layout.specs.Layout.{start, laid, layFirst, outcome}
-use Rattle.layout.specs.Whole.{draft}
-use Rattle.layout.specs.declared.Draft.{Draft}
-use Rattle.layout.proofs.Placing.{lay-more, lay-stuck}
+use Rattle.planner.specs.Layout.{start, laid, layFirst, outcome}
+use Rattle.planner.specs.Whole.{draft}
+use Rattle.planner.specs.declared.Draft.{Draft}
+use Rattle.planner.proofs.Placing.{lay-more, lay-stuck}
 use Rattle.planner.proofs.Offered.{offered}
 use Rattle.planner.proofs.lay_out.Statement.{statement}
 use Rattle.planner.proofs.lay_out.Tie as tie

@@ -12,7 +12,7 @@ use Rattle.bounds.specs.Leaves.{Moderate}
 use Rattle.plans.specs.declared.Piece.{Piece}
 use Rattle.plans.specs.declared.Plan.{Plan}
 use Rattle.planner.specs.Asked.{OwnDeadlines}
-use Rattle.layout.specs.Whole.{put, draft, wholePiece, keepsBound, takesWhole}
+use Rattle.planner.specs.Whole.{put, draft, wholePiece, keepsBound, takesWhole}
 use Rattle.planner.proofs.Putting.{stays-moderate}
 use Rattle.planner.proofs.Trying.{holding, holding-last}
 use Rattle.planner.proofs.lowest_whole.Statement.{statement}

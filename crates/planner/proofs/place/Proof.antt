@@ -1,6 +1,6 @@
 use native.Mathlib.Omega.{arith}
 use mathlib.Core.Path.{sym, _∙_}
-use Rattle.layout.proofs.Placing.{placed-whole, placed-shared}
+use Rattle.planner.proofs.Placing.{placed-whole, placed-shared}
 use borrow.Author.Needs.{needs}
 use Rattle.planner.proofs.place.Statement.{statement}
 use Rattle.planner.proofs.place.Tie as tie

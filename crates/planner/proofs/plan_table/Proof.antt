@@ -1,5 +1,5 @@
 use mathlib.Core.Path.{sym, _∙_}
-use Rattle.layout.proofs.Placing.{table-refused, table-laid}
+use Rattle.planner.proofs.Placing.{table-refused, table-laid}
 use borrow.Author.Needs.{needs}
 use Rattle.planner.proofs.plan_table.Statement.{statement}
 use Rattle.planner.proofs.plan_table.Tie as tie

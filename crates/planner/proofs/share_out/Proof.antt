@@ -6,7 +6,7 @@ use mathlib.Core.Bool.{false}
 use mathlib.Core.Logic.{inl, inr}
 use lib.ListN.{length, length-map}
 use Rattle.plans.specs.Pieces.{taskOf}
-use Rattle.layout.specs.Limit.{limitOf}
+use Rattle.planner.specs.Limit.{limitOf}
 use Rattle.planner.proofs.Allowed.{limit-other, limit-here, limit-nothing, limit-start}
 use Rattle.planner.proofs.Searching.{Sharing, begun, run-out, skip, part, fill, fit}
 use Rattle.planner.proofs.share_out.Statement.{statement}

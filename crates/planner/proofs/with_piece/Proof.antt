@@ -1,5 +1,5 @@
 use mathlib.Core.Path.{refl}
-use Rattle.layout.specs.Whole.{put}
+use Rattle.planner.specs.Whole.{put}
 use borrow.Author.Needs.{needs}
 use Rattle.planner.proofs.with_piece.Statement.{statement}
 use Rattle.planner.proofs.with_piece.Tie as tie

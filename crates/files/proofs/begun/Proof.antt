@@ -1,0 +1,12 @@
+use borrow.Author.Needs.{needs}
+use Rattle.files.proofs.begun.Statement.{statement}
+use Rattle.files.proofs.begun.Tie as tie
+
+empty-plan-requires : tie.Need-empty-plan-requires
+empty-plan-requires c κs = search needs
+
+returns : tie.Need-returns
+returns c = simp (c .empty-plan .ensures)
+
+pub begun-spec : {M : Type 1} → statement M
+begun-spec = tie.close (tie.spec empty-plan-requires returns)

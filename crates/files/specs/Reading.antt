@@ -1,0 +1,82 @@
+-- Reading: a file is read field after field from its start, and where it ends it is answered and its record is given.
+use mathlib.Core.Bool.{Bool, false, not, cond}
+use Prim.Native.Nat.{ℕ}
+use lib.Dec.{ltb, eqb}
+use lib.ListN.{replicate}
+use Rattle.tasks.specs.Tables.{noTask, andThen}
+use Rattle.tasks.specs.declared.Answer.{Answer}
+use Rattle.tasks.specs.declared.Answer.the-variants.{Accepted, Refused}
+use Rattle.tasks.specs.Places.{placeAt}
+use Rattle.tasks.specs.declared.Refusal.{Refusal}
+use Rattle.tasks.specs.declared.Refusal.the-variants.{CutShort, WrongTag, WrongLength, CoresAt, ValuesAt, TasksAt, NoPlanShape}
+use Rattle.plans.specs.Pieces.{noPiece}
+use Rattle.plans.specs.Shape.{checkedPlan}
+use Rattle.plans.specs.declared.Plan.{Plan}
+use Rattle.files.specs.Fields.{fieldAt, refusedField}
+use Rattle.files.specs.declared.Field.{Field}
+use Rattle.files.specs.declared.Reader.{Reader}
+use Rattle.files.specs.declared.ReadPlan.{ReadPlan}
+use Rattle.files.specs.declared.ReadTable.{ReadTable}
+
+-- ---- the start
+
+-- if the core count is absent it is 4
+abbrev pub defaultCores : ℕ
+defaultCores = 4
+
+-- all zeros, but for the core count
+abbrev pub emptyPlan : ℕ → Plan
+emptyPlan m = record { cores = m; count = 0; tasks = replicate 64 noTask; placed = 0; pieces = replicate 128 noPiece }
+
+-- a table's reader (false) or a plan's (true), with nothing read
+abbrev pub begun : Bool → Reader
+begun o = record { field = fieldAt o 0 0 false; plan = emptyPlan defaultCores }
+
+-- ---- the end
+
+-- the refusal of this number, which tells this place
+unfoldable pub refusal : ℕ → ℕ → Refusal
+refusal x at =
+    cond (eqb x 1) (CutShort (placeAt at))
+    (cond (eqb x 2) (WrongTag (placeAt at))
+    (cond (eqb x 3) (WrongLength (placeAt at))
+    (cond (eqb x 4) (CoresAt (placeAt at))
+    (cond (eqb x 5) (ValuesAt (placeAt at)) (TasksAt (placeAt at))))))
+
+-- the field, moved to this place
+abbrev pub movedTo : Field → ℕ → Field
+movedTo f p = record { pieces = f .pieces; bad = f .bad; place = p; end = f .end; misshapen = f .misshapen; count = f .count; bytes = f .bytes }
+
+-- after the fields, n tasks having been read: the file ends inside a field (1), no task (6, place: end of tasks)
+unfoldable pub ended : Field → ℕ → Field
+ended f n =
+    cond (not (eqb (f .bad) 0)) f
+    (cond (ltb 0 (f .count)) (refusedField f 1)
+    (cond (eqb n 0) (refusedField (movedTo f (f .end)) 6) f))
+
+-- the first bad field decides, and its refusal tells its place
+abbrev pub fieldsAnswer : Field → Answer
+fieldsAnswer f = cond (eqb (f .bad) 0) Accepted (Refused (refusal (f .bad) (f .place)))
+
+abbrev pub endedAfter : Field → ℕ → Answer
+endedAfter f n = fieldsAnswer (ended f n)
+
+-- 8 comes last: what was read is judged as a record, and of good fields only the shape is left to refuse
+unfoldable pub planEnded : Field → Plan → Answer
+planEnded f p = andThen (endedAfter f (p .count)) (cond (f .misshapen) (Refused NoPlanShape) (checkedPlan p))
+
+-- on a refusal the record is all zeros
+abbrev pub tableAnswered : Answer → Plan → ReadTable
+tableAnswered Accepted p = record { answer = Accepted; table = record { cores = p .cores; count = p .count; tasks = p .tasks } }
+tableAnswered (Refused x) p = record { answer = Refused x; table = record { cores = 0; count = 0; tasks = replicate 64 noTask } }
+
+abbrev pub planAnswered : Answer → Plan → ReadPlan
+planAnswered Accepted p = record { answer = Accepted; plan = p }
+planAnswered (Refused x) p = record { answer = Refused x; plan = emptyPlan 0 }
+
+-- the answer for a table file that ends here, and for a plan file
+unfoldable pub tableClosed : Reader → ReadTable
+tableClosed r = tableAnswered (endedAfter (r .field) (r .plan .count)) (r .plan)
+
+unfoldable pub planClosed : Reader → ReadPlan
+planClosed r = planAnswered (planEnded (r .field) (r .plan)) (r .plan)

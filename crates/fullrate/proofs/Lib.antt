@@ -1,0 +1,3 @@
+pub mod AllowedTurns
+pub mod Settled
+pub mod Turns

@@ -1,0 +1,4 @@
+pub mod Allowed
+pub mod FullRate
+pub mod Watched
+pub mod Watching

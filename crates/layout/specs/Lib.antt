@@ -1,4 +1,0 @@
-pub mod Limit
-pub mod Whole
-pub mod Shared
-pub mod Layout

@@ -1,0 +1,18 @@
+use borrow.Author.Needs.{needs}
+use Rattle.plans.proofs.is_share.Statement.{statement}
+use Rattle.plans.proofs.is_share.Tie as tie
+
+enum-told : tie.Need-enum-told
+enum-told c = search needs
+
+enum-told-2 : tie.Need-enum-told-2
+enum-told-2 c = search needs
+
+returns : tie.Need-returns
+returns c = search needs
+
+returns-2 : tie.Need-returns-2
+returns-2 c = search needs
+
+pub is-share-spec : {M : Type 1} → statement M
+is-share-spec = tie.close (tie.spec enum-told enum-told-2 returns returns-2)

@@ -1,0 +1,5 @@
+pub mod Good
+pub mod Settled
+pub mod Ending
+pub mod Course
+pub mod Parts

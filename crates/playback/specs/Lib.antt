@@ -1,0 +1,4 @@
+pub mod Requests
+pub mod Players
+pub mod Replay
+pub mod Turns

@@ -1,2 +1,0 @@
-pub mod Replay
-pub mod Turns

@@ -1,5 +1,0 @@
-pub mod States
-pub mod Rules
-pub mod Advance
-pub mod Sound
-pub mod Choice

@@ -1,3 +1,0 @@
-pub mod Running
-pub mod Whole
-pub mod Settled

@@ -1,3 +1,0 @@
-pub mod FullRate
-pub mod Watched
-pub mod Watching

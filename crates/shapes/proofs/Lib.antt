@@ -1,4 +1,0 @@
-pub mod Shaped
-pub mod InShape
-pub mod SamePlans
-pub mod Settled

@@ -1,0 +1,6 @@
+pub mod Gaps
+pub mod WholeLines
+pub mod Settled
+pub mod Running
+pub mod WholeRun
+pub mod WholeResponses
