@@ -14,7 +14,7 @@ ghost use Rattle.planner.specs.Layout.{noPlan, start, layFirst, outcome}
 ghost use Rattle.planner.specs.Limit as limits;
 ghost use Rattle.planner.specs.Shared.{sharePiece, shareFrom};
 ghost use Rattle.planner.specs.Whole as whole;
-ghost use Rattle.planner.specs.Asked.{Ready, OwnDeadlines, Alone, found};
+ghost use Rattle.planner.specs.Asked.{Ready, OwnDeadlines, Alone, taker, found};
 ghost use Rattle.planner.specs.Whole.{draft, keepsBound, takesWhole};
 use plans::Kind;
 use plans::Piece;
@@ -45,6 +45,12 @@ struct Shared {
     closed: [bool; 16],
 }
 
+// The core that takes a task whole, if one does.
+enum Taker {
+    Nowhere,
+    Core(CoreNo),
+}
+
 // The plan with one piece more.
 fn with_piece(z: Piece, plan: Plan) -> Plan
     requires { ⌜ plan .placed < 128 ⌝ }
@@ -57,26 +63,26 @@ fn with_piece(z: Piece, plan: Plan) -> Plan
     next
 }
 
-// Is piece z whole and on core x?
-fn whole_on(z: Piece, x: usize) -> bool
-    ensures { λ r. ⌜ r ≡ not (isShare (z .kind)) && eqb (z .core .0) x ⌝ }
+// Is piece z whole and on this core?
+fn whole_on(z: Piece, core: CoreNo) -> bool
+    ensures { λ r. ⌜ r ≡ not (isShare (z .kind)) && eqb (z .core .0) (core .0) ⌝ }
 {
     let kind = z.kind;
     match kind {
-        Kind::Whole => z.core.index() == x,
+        Kind::Whole => z.core.0 == core.0,
         Kind::Share => false,
     }
 }
 
-// Does every whole piece on core x keep its bound?
-fn all_keep(plan: Plan, x: usize) -> bool
+// Does every whole piece on this core keep its bound?
+fn all_keep(plan: Plan, core: CoreNo) -> bool
     requires { ⌜ Moderate plan × OwnDeadlines plan ⌝ }
-    ensures { λ r. ⌜ r ≡ all (plan .placed) (keepsBound plan x) ⌝ }
+    ensures { λ r. ⌜ r ≡ all (plan .placed) (keepsBound plan (core .0)) ⌝ }
 {
     let n = plan.placed;
     for q in 0..n {
         let b = plan.pieces[q];
-        if !whole_on(b, x) {
+        if !whole_on(b, core) {
             continue;
         }
         let i = b.task.index();
@@ -106,11 +112,12 @@ fn allowance(plan: Plan, p: u32, q: usize) -> u32
     (b.deadline - b.bound) / ((b.deadline + (p - 1)) / p)
 }
 
-// The lowest core that takes task i whole, or the number of cores.
-fn lowest_whole(plan: Plan, closed: [bool; 16], i: usize) -> usize
-    requires { ⌜ (plan .placed ≤ 96) × Ready plan i × Alone plan i ⌝ }
-    ensures { λ r. ⌜ r ≡ first (plan .cores) (takesWhole (draft plan closed) i) ⌝ }
+// The lowest core that takes the task whole, if one does.
+fn lowest_whole(plan: Plan, closed: [bool; 16], task: TaskNo) -> Taker
+    requires { ⌜ (plan .placed ≤ 96) × Ready plan (task .0) × Alone plan (task .0) ⌝ }
+    ensures { λ r. ⌜ r ≡ taker (plan .cores) (first (plan .cores) (takesWhole (draft plan closed) (task .0))) ⌝ }
 {
+    let i = task.0 as usize;
     let m = plan.cores;
     let at = plan.placed;
     let cost = plan.tasks[i].cost;
@@ -120,28 +127,29 @@ fn lowest_whole(plan: Plan, closed: [bool; 16], i: usize) -> usize
         if closed[x] {
             continue;
         }
+        let core = CoreNo(x as u8);
         w.pieces[at] = Piece {
-            task: TaskNo(i as u8),
-            core: CoreNo(x as u8),
+            task,
+            core,
             kind: Kind::Whole,
             cost,
         };
-        if all_keep(w, x) {
-            return x;
+        if all_keep(w, core) {
+            return Taker::Core(core);
         }
     }
-    m
+    Taker::Nowhere
 }
 
-// The plan with a share of task i on core x.
-fn give(plan: Plan, i: usize, x: usize, size: u32) -> Plan
-    requires { ⌜ (plan .placed < 128) × (i < 64) × (x < 16) ⌝ }
-    ensures { λ r. ⌜ r ≡ whole.put (sharePiece i x size) plan ⌝ }
+// The plan with a share of a task on a core.
+fn give(plan: Plan, task: TaskNo, core: CoreNo, size: u32) -> Plan
+    requires { ⌜ plan .placed < 128 ⌝ }
+    ensures { λ r. ⌜ r ≡ whole.put (sharePiece (task .0) (core .0) size) plan ⌝ }
 {
     with_piece(
         Piece {
-            task: TaskNo(i as u8),
-            core: CoreNo(x as u8),
+            task,
+            core,
             kind: Kind::Share,
             cost: size,
         },
@@ -155,11 +163,12 @@ fn lower(a: u32, b: u32) -> u32
     if a < b { a } else { b }
 }
 
-// Task i shared out over the open cores in rising order.
-fn share_out(plan: Plan, closed: [bool; 16], i: usize) -> Shared
-    requires { ⌜ (plan .placed ≤ 80) × Ready plan i ⌝ }
-    ensures { λ r. ⌜ found (r .placed) (draft (r .plan) (r .closed)) ≡ shareFrom (draft plan closed) i (taskOf plan i .cost) 0 (plan .cores) ⌝ }
+// The task shared out over the open cores in rising order.
+fn share_out(plan: Plan, closed: [bool; 16], task: TaskNo) -> Shared
+    requires { ⌜ (plan .placed ≤ 80) × Ready plan (task .0) ⌝ }
+    ensures { λ r. ⌜ found (r .placed) (draft (r .plan) (r .closed)) ≡ shareFrom (draft plan closed) (task .0) (taskOf plan (task .0) .cost) 0 (plan .cores) ⌝ }
 {
+    let i = task.0 as usize;
     let m = plan.cores;
     let p = plan.tasks[i].period;
     let mut need = plan.tasks[i].cost;
@@ -184,11 +193,11 @@ fn share_out(plan: Plan, closed: [bool; 16], i: usize) -> Shared
             most = lower(most, allowed);
         }
         if need < most {
-            w = give(w, i, x, need);
+            w = give(w, task, CoreNo(x as u8), need);
             placed = true;
             break 'cores;
         }
-        w = give(w, i, x, most);
+        w = give(w, task, CoreNo(x as u8), most);
         shut[x] = true;
         if most == need {
             placed = true;
@@ -203,26 +212,27 @@ fn share_out(plan: Plan, closed: [bool; 16], i: usize) -> Shared
     }
 }
 
-// Task i placed: whole on the lowest core that takes it, otherwise shared out.
-fn place(plan: Plan, closed: [bool; 16], i: usize) -> Shared
-    requires { ⌜ (plan .placed ≤ 80) × Ready plan i × Alone plan i ⌝ }
-    ensures { λ r. ⌜ found (r .placed) (draft (r .plan) (r .closed)) ≡ layouts.place (draft plan closed) i ⌝ }
+// The task placed: whole on the lowest core that takes it, otherwise shared out.
+fn place(plan: Plan, closed: [bool; 16], task: TaskNo) -> Shared
+    requires { ⌜ (plan .placed ≤ 80) × Ready plan (task .0) × Alone plan (task .0) ⌝ }
+    ensures { λ r. ⌜ found (r .placed) (draft (r .plan) (r .closed)) ≡ layouts.place (draft plan closed) (task .0) ⌝ }
 {
-    let x = lowest_whole(plan, closed, i);
-    if x < plan.cores {
-        let z = Piece {
-            task: TaskNo(i as u8),
-            core: CoreNo(x as u8),
-            kind: Kind::Whole,
-            cost: plan.tasks[i].cost,
-        };
-        Shared {
-            placed: true,
-            plan: with_piece(z, plan),
-            closed,
+    let taker = lowest_whole(plan, closed, task);
+    match taker {
+        Taker::Core(core) => {
+            let z = Piece {
+                task,
+                core,
+                kind: Kind::Whole,
+                cost: plan.tasks[task.0 as usize].cost,
+            };
+            Shared {
+                placed: true,
+                plan: with_piece(z, plan),
+                closed,
+            }
         }
-    } else {
-        share_out(plan, closed, i)
+        Taker::Nowhere => share_out(plan, closed, task),
     }
 }
 
@@ -284,9 +294,10 @@ fn lay_out(table: Table) -> Planned
     let mut closed = [false; 16];
     let mut i = 0;
     while i < n {
-        let next = place(plan, closed, i);
+        let task = TaskNo(i as u8);
+        let next = place(plan, closed, task);
         if !next.placed {
-            return refused(Refusal::NotPlaced(TaskNo(i as u8)));
+            return refused(Refusal::NotPlaced(task));
         }
         plan = next.plan;
         closed = next.closed;

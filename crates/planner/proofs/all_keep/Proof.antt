@@ -18,16 +18,16 @@ use Rattle.planner.proofs.all_keep.Statement.{statement}
 use Rattle.planner.proofs.all_keep.Tie as tie
 
 abbrev Inv-loop2 : tie.InvT-loop2
-Inv-loop2 x plan n q b i d load₀ j₀ load j = (j ≤ n) × (d ≡ taskOf plan (pieceOf plan q .task .0) .deadline) × (d ≤ 1000000) × (load ≡ bounds.load (taskOf plan) (pieceOf plan) j (pieceOf plan q) d)
+Inv-loop2 core plan n q b i d load₀ j₀ load j = (j ≤ n) × (d ≡ taskOf plan (pieceOf plan q .task .0) .deadline) × (d ≤ 1000000) × (load ≡ bounds.load (taskOf plan) (pieceOf plan) j (pieceOf plan q) d)
 
 abbrev μ-loop2 : tie.MeasureT-loop2
-μ-loop2 x plan n q b i d load₀ j₀ load j = n - j
+μ-loop2 core plan n q b i d load₀ j₀ load j = n - j
 
 abbrev Inv-loop : tie.InvT-loop
-Inv-loop x plan n q₀ q = (q ≤ n) × (all q (keepsBound plan x) ≡ true)
+Inv-loop core plan n q₀ q = (q ≤ n) × (all q (keepsBound plan (core .0)) ≡ true)
 
 abbrev μ-loop : tie.MeasureT-loop
-μ-loop x plan n q₀ q = n - q
+μ-loop core plan n q₀ q = n - q
 
 -- what a turn adds is the interference of the piece that it looks at
 pressed : (c : tie.After-pressure Inv-loop2 μ-loop2 Inv-loop μ-loop) → let at = c .before .before .before .before .before in
@@ -44,7 +44,7 @@ pressed c =
 judged : (at : tie.At-loop2 Inv-loop2 μ-loop2 Inv-loop μ-loop) → let o = at .before .before .before .before .before .before in
     let p = o .before .args .t1 in
     let d = taskOf p (at .before .index .result) .deadline in
-    o .loop .q < p .placed → p .placed ≤ at .loop2 .j → keepsBound p (o .before .args .x) (o .loop .q) ≡ leb (pieceOf p (o .loop .q) .cost + at .loop2 .load) d
+    o .loop .q < p .placed → p .placed ≤ at .loop2 .j → keepsBound p (o .before .args .core .0) (o .loop .q) ≡ leb (pieceOf p (o .loop .q) .cost + at .loop2 .load) d
 judged at h l =
     let o = at .before .before .before .before .before .before in
     let p = o .before .args .t1 in
@@ -73,7 +73,7 @@ loop-less c = search needs
 loop-again : tie.Need-loop-again Inv-loop2 μ-loop2 Inv-loop μ-loop
 loop-again c =
     let at = c .before .before .before .before in
-    (search needs, all-more _ _ (at .loop .inv .1) (keeps-other (at .before .args .t1) (at .before .args .x) (at .loop .q) (sym (c .before .whole-on .ensures) ∙ not-true _ (c .if1 .taken))))
+    (search needs, all-more _ _ (at .loop .inv .1) (keeps-other (at .before .args .t1) (at .before .args .core .0) (at .loop .q) (sym (c .before .whole-on .ensures) ∙ not-true _ (c .if1 .taken))))
 
 index-requires : tie.Need-index-requires Inv-loop2 μ-loop2 Inv-loop μ-loop
 index-requires c κs = search needs

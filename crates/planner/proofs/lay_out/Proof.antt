@@ -32,11 +32,11 @@ loop-holds : tie.Need-loop-holds Inv-loop μ-loop
 unfolding layFirst
 loop-holds c = (search needs, refl)
 
+cast-t9 : tie.Need-cast-t9 Inv-loop μ-loop
+cast-t9 c = omega (arith, accepted-good _ _ _ (c .before .before .before .pre) .tasks .1)
+
 place-requires : tie.Need-place-requires Inv-loop μ-loop
 place-requires c κs = offered (c .before .before .before .args .table) (c .before .before .before .pre) _ _ (started (c .before .before) _ ∙ c .before .loop .inv .1) (c .loop-test .taken)
-
-cast-t8 : tie.Need-cast-t8 Inv-loop μ-loop
-cast-t8 c = omega (arith, accepted-good _ _ _ (c .before .before .before .before .before .before .pre) .tasks .1)
 
 refused-requires : tie.Need-refused-requires Inv-loop μ-loop
 refused-requires c κs = search needs
@@ -73,8 +73,8 @@ lay-out-spec =
     μ-loop
     begin-requires
     loop-holds
+    cast-t9
     place-requires
-    cast-t8
     refused-requires
     returns
     add-i

@@ -13,39 +13,42 @@ use Rattle.planner.proofs.share_out.Statement.{statement}
 use Rattle.planner.proofs.share_out.Tie as tie
 
 abbrev Inv-loop : tie.InvT-loop
-Inv-loop i m p need w shut placed x₀ n most₀ q₀ x most q = (x ≡ x₀) × (q ≤ n) × (n ≡ w .placed) × (1 ≤ most) × (most ≡ limitOf w p x₀ q)
+Inv-loop task i m p need w shut placed x₀ n most₀ q₀ x most q = (x ≡ x₀) × (q ≤ n) × (n ≡ w .placed) × (1 ≤ most) × (most ≡ limitOf w p x₀ q)
 
 abbrev μ-loop : tie.MeasureT-loop
-μ-loop i m p need w shut placed x₀ n most₀ q₀ x most q = n - q
+μ-loop task i m p need w shut placed x₀ n most₀ q₀ x most q = n - q
 
 abbrev Inv-cores : tie.InvT-cores
-Inv-cores i m p need₀ w₀ shut₀ placed₀ x₀ need w shut placed x = (placed ≡ false) × Sharing w₀ shut₀ i m p need w shut x
+Inv-cores task i m p need₀ w₀ shut₀ placed₀ x₀ need w shut placed x = (placed ≡ false) × Sharing w₀ shut₀ (task .0) m p need w shut x
 
 abbrev μ-cores : tie.MeasureT-cores
-μ-cores i m p need₀ w₀ shut₀ placed₀ x₀ need w shut placed x = m - x
+μ-cores task i m p need₀ w₀ shut₀ placed₀ x₀ need w shut placed x = m - x
 
 -- past the last piece the least so far is the core's limit
 all-seen : (at : tie.At-loop Inv-loop μ-loop Inv-cores μ-cores) → let o = at .before .before .before .cores in
-    o .w .placed ≤ at .loop .q → at .loop .most ≡ limitOf (o .w) (taskOf (at .before .before .before .before .args .t1) (at .before .before .before .before .args .i) .period) (o .x) (o .w .placed)
+    o .w .placed ≤ at .loop .q → at .loop .most ≡ limitOf (o .w) (taskOf (at .before .before .before .before .before .args .t1) (at .before .before .before .before .before .args .task .0) .period) (o .x) (o .w .placed)
 all-seen at h =
     let e : at .loop .q ≡ at .before .before .before .cores .w .placed = omega arith in
     rw e at (at .loop .inv .4)
+
+cast-i : tie.Need-cast-i Inv-loop μ-loop Inv-cores μ-cores
+cast-i c = search needs
 
 mul-p : tie.Need-mul-p Inv-loop μ-loop Inv-cores μ-cores
 mul-p c = search needs
 
 element-copy-out-p : tie.Need-element-copy-out-p Inv-loop μ-loop Inv-cores μ-cores
-element-copy-out-p c = omega (arith, c .pre .1 .known)
+element-copy-out-p c = omega (arith, c .before .pre .1 .known)
 
 mul-need : tie.Need-mul-need Inv-loop μ-loop Inv-cores μ-cores
 mul-need c = search needs
 
 element-copy-out-need : tie.Need-element-copy-out-need Inv-loop μ-loop Inv-cores μ-cores
-element-copy-out-need c = omega (arith, c .pre .1 .known)
+element-copy-out-need c = omega (arith, c .before .pre .1 .known)
 
 cores-holds : tie.Need-cores-holds Inv-loop μ-loop Inv-cores μ-cores
-cores-holds c = let l : length (c .args .t1 .pieces) ≡ 128 = simp length-map at (c .good .0 .1 .1 .1 .1 .1 .1 .0 .1 .0 .1) in
-    (refl, begun (c .args .t1) (c .args .closed) (c .args .i) (c .pre .0) (c .pre .1) l (c .good .1 .0 .1 .0 .1))
+cores-holds c = let l : length (c .before .args .t1 .pieces) ≡ 128 = simp length-map at (c .before .good .0 .1 .1 .1 .1 .1 .1 .0 .1 .0 .1) in
+    (refl, begun (c .before .args .t1) (c .before .args .closed) (c .before .args .task .0) (c .before .pre .0) (c .before .pre .1) l (c .before .good .1 .0 .1 .0 .1))
 
 array-read-if1 : tie.Need-array-read-if1 Inv-loop μ-loop Inv-cores μ-cores
 array-read-if1 c = omega (arith, c .before .cores .inv .1 .board)
@@ -115,13 +118,21 @@ loop-again-2 c = let at = c .before .before .before .before .before .before .bef
     let here = sym (c .before .before .before .before .index .ensures .0) ∙ c .before .before .before .if2 .left ∙ at .loop .inv .0 in
     (at .loop .inv .0, search needs, at .loop .inv .2, omega (arith, c .lower .ensures, at .loop .inv .3), c .lower .ensures ∙ rw (at .loop .inv .4, c .before .before .allowance .ensures .0) (sym (limit-here _ _ _ _ here)))
 
+cast-t36 : tie.Need-cast-t36 Inv-loop μ-loop Inv-cores μ-cores
+cast-t36 c = let o = c .before .before .before .before .before in
+    omega (arith, o .cores .inv .1 .board)
+
 give-requires : tie.Need-give-requires Inv-loop μ-loop Inv-cores μ-cores
 give-requires c κs = let o = c .before .before .before .before .before in
-    (omega (arith, o .cores .inv .1 .few, o .cores .inv .1 .board), o .cores .inv .1 .ready .known, omega (arith, o .cores .inv .1 .board))
+    omega (arith, o .cores .inv .1 .few, o .cores .inv .1 .board)
+
+cast-t40 : tie.Need-cast-t40 Inv-loop μ-loop Inv-cores μ-cores
+cast-t40 c = let o = c .before .before .before .before .before in
+    omega (arith, o .cores .inv .1 .board)
 
 give-requires-2 : tie.Need-give-requires-2 Inv-loop μ-loop Inv-cores μ-cores
 give-requires-2 c κs = let o = c .before .before .before .before .before in
-    (omega (arith, o .cores .inv .1 .few, o .cores .inv .1 .board), o .cores .inv .1 .ready .known, omega (arith, o .cores .inv .1 .board))
+    omega (arith, o .cores .inv .1 .few, o .cores .inv .1 .board)
 
 array-write-shut : tie.Need-array-write-shut Inv-loop μ-loop Inv-cores μ-cores
 array-write-shut c = search needs
@@ -158,6 +169,7 @@ share-out-spec =
     μ-loop
     Inv-cores
     μ-cores
+    cast-i
     mul-p
     element-copy-out-p
     mul-need
@@ -182,7 +194,9 @@ share-out-spec =
     add-q-2
     loop-less-2
     loop-again-2
+    cast-t36
     give-requires
+    cast-t40
     give-requires-2
     array-write-shut
     add-x-3
