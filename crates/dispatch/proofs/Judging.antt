@@ -8,7 +8,7 @@ use native.Mathlib.Decide.{ℕ-discrete, decLt}
 use native.Mathlib.Omega.{arith}
 use lib.Dec.{leb, ltb, eqb}
 use lib.ListN.{length, getD, set, List·getD-eq-default}
-use borrow.Author.Tests.{le-leb, lt-leb, lt-ltb, le-ltb, eq-eqb, ne-eqb}
+use borrow.Author.Tests.{le-leb, lt-leb, lt-ltb, le-ltb, ltb-true, ltb-false, eq-eqb, ne-eqb}
 use Rattle.tasks.specs.Below.{any, first, tabulate}
 use Rattle.tasks.specs.Tables.{taskNo}
 use Rattle.tasks.specs.declared.Answer.the-variants.{Accepted, Refused}
@@ -22,13 +22,15 @@ use Rattle.plans.specs.Pieces.{taskOf}
 use Rattle.plans.specs.declared.Plan.{Plan}
 use Rattle.jobs.specs.Jobs.{noJob, noRun, names, runnerNo, isActive, onceReleased, phaseNo}
 use Rattle.dispatch.specs.States.{jobOf, lastOf}
-use Rattle.dispatch.specs.Refusing.{notRun, tooSoon, stillActive, lowest}
+use Rattle.dispatch.specs.Refusing.{notRun, tooSoon, stillActive, lowestNo, lowest}
 use Rattle.dispatch.specs.Rules.{eachJob, endedJob, finishedJob, finish}
 use Rattle.jobs.specs.Sets.{member}
 use Rattle.jobs.specs.declared.CoreRun.{CoreRun}
 use Rattle.jobs.specs.declared.Job.{Job}
 use Rattle.jobs.specs.declared.Phase.{Phase}
 use Rattle.jobs.specs.declared.Phase.the-variants.{Never, Active, Ended}
+use Rattle.dispatch.specs.declared.Lowest.{Lowest}
+use Rattle.dispatch.specs.declared.Lowest.the-variants.{Nobody, Task}
 use Rattle.dispatch.specs.declared.State.{State}
 use Rattle.jobs.specs.declared.Tasks.{Tasks}
 use Rattle.dispatch.proofs.Steps.{finish-out}
@@ -154,6 +156,15 @@ first-with n f g t l same e = go (decLt (first n f) t)
     go (yes h) = let m : min (first n f) t ≡ first n f = omega arith in m ∙ sym (first-is n g (first n f) (omega arith) (sym (same (first n f) (λ z. omega arith)) ∙ holds (omega arith) (either (any n f))) (λ j b. before j b (omega arith)))
     go (no h) = let m : min (first n f) t ≡ t = omega arith in m ∙ sym (first-is n g t l e (λ j b. before j (omega arith) b))
 
+-- the lower of two tasks, the second only where it is wrong
+pub lower-taken : (b : Bool) (low t i n : ℕ) → b && ltb i n ≡ true → i ≡ t → n ≡ low → t ≡ cond b (min low t) low
+lower-taken true low t i n h p q = omega (arith, ltb-true i n h)
+lower-taken false low t i n h p q = clash h refl
+
+pub lower-left : (b : Bool) (low t i n : ℕ) → b && ltb i n ≡ false → i ≡ t → n ≡ low → low ≡ cond b (min low t) low
+lower-left true low t i n h p q = omega (arith, ltb-false i n h)
+lower-left false low t i n h p q = refl
+
 -- t is a member, and bad
 abbrev wrong : Tasks → (ℕ → Bool) → ℕ → Bool
 wrong u bad t = member u t && bad t
@@ -180,9 +191,12 @@ module _ (u : Tasks) (bad : ℕ → Bool) where
   unfolding any
   lowest-start = sym (first-none 256 (wrongIn 0) (any-none 256 (wrongIn 0) (λ j l. refl)))
 
-  pub lowest-turn : (k t low r : ℕ) (b : Bool) → low ≡ lowestOf k → t ≡ memberAt u k → t < 256 → b ≡ bad t → r ≡ cond b (min low t) low → r ≡ lowestOf (k + 1)
+  pub lowest-turn : (k t low r : ℕ) (b : Bool) → low ≡ lowestOf k → t ≡ memberAt u k → t < 256 → b ≡ bad t → r ≡ cond b (min low (memberAt u k)) low → r ≡ lowestOf (k + 1)
   lowest-turn k t low r b e q l w h = go (bad t) refl
     where
+      here : r ≡ cond b (min low t) low
+      here = h ∙ ap (λ (m : ℕ). cond b (min low m) low) (sym q)
+
       other : (i : ℕ) → (i ≡ t → ⊥) → wrongIn k i ≡ wrongIn (k + 1) i
       other i d = rw any-more (ap (λ (z : Bool). z && bad i) (or-none (any k (λ j. eqb (memberAt u j) i)) (ne-eqb (memberAt u k) i (λ z. d (sym z ∙ sym q)))))
 
@@ -191,27 +205,34 @@ module _ (u : Tasks) (bad : ℕ → Bool) where
       each z i (no d) = other i d
 
       go : (v : Bool) → bad t ≡ v → r ≡ lowestOf (k + 1)
-      go true z = h ∙ rw (w, z, e) (first-with 256 (wrongIn k) (wrongIn (k + 1)) t l other (rw (any-more, ← or-one (any k (λ j. eqb (memberAt u j) t)) (eq-eqb (memberAt u k) t (sym q))) z))
-      go false z = h ∙ rw (w, z, e) (first-same 256 (wrongIn k) (wrongIn (k + 1)) (λ i y. each z i (ℕ-discrete i t)))
+      go true z = here ∙ rw (w, z, e) (first-with 256 (wrongIn k) (wrongIn (k + 1)) t l other (rw (any-more, ← or-one (any k (λ j. eqb (memberAt u j) t)) (eq-eqb (memberAt u k) t (sym q))) z))
+      go false z = here ∙ rw (w, z, e) (first-same 256 (wrongIn k) (wrongIn (k + 1)) (λ i y. each z i (ℕ-discrete i t)))
 
   pub lowest-all : (k low : ℕ) → k ≡ min (u .count) 64 → low ≡ lowestOf k → low ≡ lowestBad u bad
   unfolding member
   lowest-all k low e h = h ∙ ap lowestOf e
 
-module _ (u : Tasks) (bad : ℕ → Bool) (say : TaskNo → Refusal) (t : ℕ) (et : t ≡ lowestBad u bad) where
-  -- below 256 it is the lowest that is refused
-  pub lowest-refused : t < 256 → Refused (say (taskNo t)) ≡ lowest u bad say
+module _ (u : Tasks) (bad : ℕ → Bool) (say : TaskNo → Refusal) (low : Lowest) (is : lowestNo low ≡ lowestBad u bad) where
+  -- a task that was found is the lowest that is refused
+  pub lowest-refused : (t : TaskNo) → low ≡ Task t → t .0 < 256 → Refused (say t) ≡ lowest u bad say
   unfolding lowest
-  lowest-refused l = go (either (any 256 (wrong u bad)))
+  lowest-refused t e l = go (either (any 256 (wrong u bad)))
     where
-      go : (any 256 (wrong u bad) ≡ true) ⊎ (any 256 (wrong u bad) ≡ false) → Refused (say (taskNo t)) ≡ cond (any 256 (wrong u bad)) (Refused (say (taskNo (lowestBad u bad)))) Accepted
+      et : t .0 ≡ lowestBad u bad
+      et = rw e at is
+
+      go : (any 256 (wrong u bad) ≡ true) ⊎ (any 256 (wrong u bad) ≡ false) → Refused (say t) ≡ cond (any 256 (wrong u bad)) (Refused (say (taskNo (lowestBad u bad)))) Accepted
       go (inl a) = rw a (ap (λ (k : ℕ). Refused (say (taskNo k))) et)
       go (inr a) = absurd (omega (arith, et, first-none 256 (wrong u bad) a))
 
-  pub lowest-accepted : 256 ≤ t → Accepted ≡ lowest u bad say
+  -- if none was found, none is refused
+  pub lowest-accepted : low ≡ Nobody → Accepted ≡ lowest u bad say
   unfolding lowest
-  lowest-accepted l = go (either (any 256 (wrong u bad)))
+  lowest-accepted e = go (either (any 256 (wrong u bad)))
     where
+      et : 256 ≡ lowestBad u bad
+      et = rw e at is
+
       go : (any 256 (wrong u bad) ≡ true) ⊎ (any 256 (wrong u bad) ≡ false) → Accepted ≡ cond (any 256 (wrong u bad)) (Refused (say (taskNo (lowestBad u bad)))) Accepted
       go (inl a) = absurd (omega (arith, et, first-holds 256 (wrong u bad) a .0))
       go (inr a) = rw a

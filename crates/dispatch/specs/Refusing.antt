@@ -15,6 +15,8 @@ use Rattle.jobs.specs.Jobs.{isActive, onceReleased, names}
 use Rattle.dispatch.specs.States.{jobOf, lastOf}
 use Rattle.dispatch.specs.Rules.{finish}
 use Rattle.jobs.specs.Sets.{member}
+use Rattle.dispatch.specs.declared.Lowest.{Lowest}
+use Rattle.dispatch.specs.declared.Lowest.the-variants.{Nobody, Task}
 use Rattle.dispatch.specs.declared.State.{State}
 use Rattle.jobs.specs.declared.Tasks.{Tasks}
 
@@ -29,6 +31,11 @@ tooSoon p s t = not (ltb t (p .count)) || (onceReleased (jobOf s t .phase) && lt
 -- 12: at age p while active
 abbrev pub stillActive : Plan → State → ℕ → Bool
 stillActive p s t = isActive (jobOf s t .phase) && eqb (jobOf s t .age) (taskOf p t .period)
+
+-- the lowest task that was found, as a number, or 256 where there is none
+abbrev pub lowestNo : Lowest → ℕ
+lowestNo Nobody = 256
+lowestNo (Task t) = t .0
 
 -- the refusal for the lowest member of a set that is bad; a task's number is below 256
 unfoldable pub lowest : Tasks → (ℕ → Bool) → (TaskNo → Refusal) → Answer

@@ -16,7 +16,7 @@ ghost use Rattle.dispatch.specs.Advance.{nextState, advance as advancing
 ghost use Rattle.dispatch.specs.Choice.{noStand, standOf, StandsOf, found as foundBest};
 ghost use Rattle.dispatch.specs.Rules.{total as totalled, endedJob, finishedJob, finish, markLate, firstPiece, releasedJob, release, age as aged, chosen, ranJob, run, agedJob, countPreempted};
 ghost use Rattle.dispatch.specs.Sound.{Sound, AtPieces, Filled};
-ghost use Rattle.dispatch.specs.Refusing.{notRun, judgedSets};
+ghost use Rattle.dispatch.specs.Refusing.{notRun, lowestNo, judgedSets};
 use jobs::CoreRun;
 use jobs::Job;
 use jobs::Phase;
@@ -416,20 +416,20 @@ fn choose(plan: Plan, stands: [Stand; 64]) -> [CoreRun; 16]
         let x = stand.piece.core.index();
         let found = runs[x];
         let no = jobs::runner_no(found);
-        runs[x] = better(found, no, stands[tasks::smaller(no, 63)], stand, i as u8);
+        runs[x] = better(found, no, stands[tasks::smaller(no, 63)], stand, TaskNo(i as u8));
         i += 1;
     }
     runs
 }
 
 // The best on a core, one more job there being looked at: `found` is the best so far, `no` its number and `held` where its job stands.
-fn better(mut found: CoreRun, no: usize, held: Stand, stand: Stand, task: u8) -> CoreRun
+fn better(mut found: CoreRun, no: usize, held: Stand, stand: Stand, task: TaskNo) -> CoreRun
     requires { ⌜ eqb no 256 ≡ isIdle (found .runner) ⌝ }
-    ensures { λ r. ⌜ ((p : Plan) (s : State) → stand ≡ standOf p s task → found ≡ foundBest p s task (stand .piece .core .0) → ((t : TaskNo) → found .runner ≡ Runs t → held ≡ standOf p s (t .0)) → r ≡ foundBest p s (task + 1) (stand .piece .core .0)) ⌝ }
+    ensures { λ r. ⌜ ((p : Plan) (s : State) → stand ≡ standOf p s (task .0) → found ≡ foundBest p s (task .0) (stand .piece .core .0) → ((t : TaskNo) → found .runner ≡ Runs t → held ≡ standOf p s (t .0)) → r ≡ foundBest p s (task .0 + 1) (stand .piece .core .0)) ⌝ }
 {
     let above = plans::outranks(stand.piece, stand.deadline, held.piece, held.deadline);
     if stand.active & ((no == 256) | above) {
-        let runner = Runner::Runs(TaskNo(task));
+        let runner = Runner::Runs(task);
         found = CoreRun { runner };
     }
     found
@@ -462,6 +462,12 @@ fn no_job() -> Job
 
 // ---- What is wrong with the two sets of a tick.
 
+// The lowest task that a refusal concerns, if there is one.
+enum Lowest {
+    Nobody,
+    Task(TaskNo),
+}
+
 // Refusals 10, 11 and 12, for any plan, any state and any two sets; 11 and 12 are judged after finishes.
 // A finish changes neither an age nor whether there was a release, and it ends a job that was active.
 fn judge_sets(plan: Plan, state: State, finished: Tasks, released: Tasks) -> Answer
@@ -469,16 +475,16 @@ fn judge_sets(plan: Plan, state: State, finished: Tasks, released: Tasks) -> Ans
 {
     let last = state.last;
     let not_run = lowest_not_run(plan.count, plan.cores, last, finished);
-    if not_run < 256 {
-        return Answer::Refused(Refusal::NotRun(TaskNo(not_run as u8)));
+    if let Lowest::Task(task) = not_run {
+        return Answer::Refused(Refusal::NotRun(task));
     }
     let tasks = plan.tasks;
     let jobs = state.jobs;
     let known = tasks::smaller(plan.count, 64);
     let ended = jobs::marks(finished);
     let count = tasks::smaller(released.count, 64);
-    let mut soon = 256;
-    let mut active = 256;
+    let mut soon = Lowest::Nobody;
+    let mut active = Lowest::Nobody;
     let mut k = 0;
     while k < count {
         let task = released.members[k];
@@ -489,22 +495,22 @@ fn judge_sets(plan: Plan, state: State, finished: Tasks, released: Tasks) -> Ans
         let phase = jobs::phase_no(job);
         let young = (t < known) & (0 < phase) & (job.age < period);
         let kept = (t < known) & (phase == 1) & (job.age == period) & !ended[t];
-        soon = lower(soon, t, (plan.count <= t) | young);
-        active = lower(active, t, kept);
+        soon = lower(soon, task, (plan.count <= t) | young);
+        active = lower(active, task, kept);
         k += 1;
     }
-    if soon < 256 {
-        return Answer::Refused(Refusal::TooSoon(TaskNo(soon as u8)));
+    if let Lowest::Task(task) = soon {
+        return Answer::Refused(Refusal::TooSoon(task));
     }
-    if active < 256 {
-        return Answer::Refused(Refusal::StillActive(TaskNo(active as u8)));
+    if let Lowest::Task(task) = active {
+        return Answer::Refused(Refusal::StillActive(task));
     }
     Answer::Accepted
 }
 
-// The lowest finished task that refusal 10 concerns, or 256.
-fn lowest_not_run(count: usize, cores: usize, last: [CoreRun; 16], finished: Tasks) -> usize
-    ensures { λ r. ⌜ ((p : Plan) (s : State) → p .count ≡ count → p .cores ≡ cores → s .last ≡ last → r ≡ first 256 (λ t. member finished t && notRun p s t)) ⌝ }
+// The lowest finished task that refusal 10 concerns, if there is one.
+fn lowest_not_run(count: usize, cores: usize, last: [CoreRun; 16], finished: Tasks) -> Lowest
+    ensures { λ r. ⌜ ((p : Plan) (s : State) → p .count ≡ count → p .cores ≡ cores → s .last ≡ last → lowestNo r ≡ first 256 (λ t. member finished t && notRun p s t)) ⌝ }
 {
     let known = tasks::smaller(cores, 16);
     let mut wrong = [true; 257];
@@ -515,24 +521,33 @@ fn lowest_not_run(count: usize, cores: usize, last: [CoreRun; 16], finished: Tas
         x += 1;
     }
     let members = tasks::smaller(finished.count, 64);
-    let mut low = 256;
+    let mut low = Lowest::Nobody;
     let mut k = 0;
     while k < members {
         let task = finished.members[k];
-        let t = task.index();
-        low = lower(low, t, wrong[t]);
+        low = lower(low, task, wrong[task.index()]);
         k += 1;
     }
     low
 }
 
 // The lower of two tasks, the second being looked at only where it is wrong.
-fn lower(low: usize, task: usize, wrong: bool) -> usize
-    ensures { λ r. ⌜ r ≡ cond wrong (min low task) low ⌝ }
+fn lower(low: Lowest, task: TaskNo, wrong: bool) -> Lowest
+    ensures { λ r. ⌜ lowestNo r ≡ cond wrong (min (lowestNo low) (task .0)) (lowestNo low) ⌝ }
 {
-    if wrong {
-        tasks::smaller(low, task)
+    if wrong & (task.index() < lowest_no(low)) {
+        Lowest::Task(task)
     } else {
         low
+    }
+}
+
+// The lowest task as a number, or 256 where there is none.
+fn lowest_no(low: Lowest) -> usize
+    ensures { λ r. ⌜ r ≡ lowestNo low ⌝ }
+{
+    match low {
+        Lowest::Nobody => 256,
+        Lowest::Task(task) => task.index(),
     }
 }

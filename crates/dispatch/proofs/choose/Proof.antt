@@ -53,8 +53,8 @@ mul-better c = search needs
 array-copy-out-better : tie.Need-array-copy-out-better Inv-loop μ-loop
 array-copy-out-better c = omega (arith, c .smaller .ensures)
 
-cast-better : tie.Need-cast-better Inv-loop μ-loop
-cast-better c = omega (arith, c .before .before .before .before .before .before .before .before .before .pre .0 .count)
+cast-t23 : tie.Need-cast-t23 Inv-loop μ-loop
+cast-t23 c = omega (arith, c .before .before .before .before .before .before .before .before .before .pre .0 .count)
 
 better-requires : tie.Need-better-requires Inv-loop μ-loop
 better-requires c κs = c .before .before .runner-no .ensures .2
@@ -96,7 +96,7 @@ choose-spec =
     smaller-requires
     mul-better
     array-copy-out-better
-    cast-better
+    cast-t23
     better-requires
     mul-runs
     array-set-from-runs

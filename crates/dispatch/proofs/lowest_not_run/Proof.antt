@@ -8,6 +8,7 @@ use Rattle.tasks.proofs.Tabulate.{tabulate-start}
 use Rattle.tasks.proofs.Below.{first-same}
 use Rattle.tasks.specs.Below.{tabulate}
 use Rattle.jobs.specs.Sets.{member}
+use Rattle.dispatch.specs.Refusing.{lowestNo}
 use Rattle.dispatch.proofs.Judging.{notRunOn, none-run, run-more, run-read, lowestOf, lowest-start, lowest-turn, lowest-all}
 use Rattle.dispatch.proofs.lowest_not_run.Statement.{statement}
 use Rattle.dispatch.proofs.lowest_not_run.Tie as tie
@@ -19,7 +20,7 @@ abbrev μ-loop : tie.MeasureT-loop
 μ-loop count cores last finished known wrong₀ x₀ wrong x = known - x
 
 abbrev Inv-loop2 : tie.InvT-loop2
-Inv-loop2 count cores finished known wrong x members low₀ k₀ low k = (k ≤ members) × (members ≤ 64) × (members ≡ min (finished .count) 64) × (low ≡ lowestOf finished (λ t. getD wrong t false) k)
+Inv-loop2 count cores finished known wrong x members low₀ k₀ low k = (k ≤ members) × (members ≤ 64) × (members ≡ min (finished .count) 64) × (lowestNo low ≡ lowestOf finished (λ t. getD wrong t false) k)
 
 abbrev μ-loop2 : tie.MeasureT-loop2
 μ-loop2 count cores finished known wrong x members low₀ k₀ low k = members - k
