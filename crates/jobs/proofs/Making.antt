@@ -86,8 +86,8 @@ module _ (p : Plan) (jobs : List Job) where
     core-says x count t k n seen e q b i c h w s = rw (c, w, h, once-no) (ap (λ (z : ℕ). eqb z 256 || (ltb t (min (p .count) 64) && onceReleased (getD jobs (min t 63) noJob .phase) && not seen)) q ∙ core-is x (getD last x noRun .runner) (ltb t (min (p .count) 64) && onceReleased (getD jobs (min t 63) noJob .phase)) seen (rw q at b) (rw q at i) refl (rw (← q) (released-read t e)) (rw (← q) s))
 
 -- the piece that a job is at exists, told of the piece read within the record
-pub exists-read : (p : Plan) (i : ℕ) (j : Job) (here : Piece) (t placed : ℕ) → length (p .pieces) ≡ 128 → p .placed ≡ placed → pieceOf p (min (j .piece) 127) ≡ here → t ≡ here .task .0 → ltb (j .piece) placed && ltb (j .piece) 128 && eqb t i && ltb (j .ran) (here .cost) ≡ pieceExists p i j
-exists-read p i j here t placed e q h k = rw (k, ← q, ← h) (go (decLt (j .piece) 128))
+pub exists-read : (p : Plan) (i : ℕ) (j : Job) (here : Piece) (placed : ℕ) → length (p .pieces) ≡ 128 → p .placed ≡ placed → pieceOf p (min (j .piece) 127) ≡ here → ltb (j .piece) placed && ltb (j .piece) 128 && eqb (here .task .0) i && ltb (j .ran) (here .cost) ≡ pieceExists p i j
+exists-read p i j here placed e q h = rw (← q, ← h) (go (decLt (j .piece) 128))
   where
     go : Dec (j .piece < 128) → ltb (j .piece) (p .placed) && ltb (j .piece) 128 && eqb (pieceOf p (min (j .piece) 127) .task .0) i && ltb (j .ran) (pieceOf p (min (j .piece) 127) .cost) ≡ pieceExists p i j
     go (yes l) = let m : min (j .piece) 127 ≡ j .piece = omega arith in rw (m, lt-ltb (j .piece) 128 l, and-true (ltb (j .piece) (p .placed)))

@@ -103,7 +103,7 @@ fn jobs_well_made(plan: Plan, jobs: [Job; 64]) -> bool
     while i < count {
         let job = jobs[i];
         let here = plan.pieces[tasks::smaller(job.piece as usize, 127)];
-        good = good & job_well_made(i, plan.tasks[i], job, here, plan.placed);
+        good = good & job_well_made(TaskNo(i as u8), plan.tasks[i], job, here, plan.placed);
         i += 1;
     }
     good
@@ -129,14 +129,14 @@ fn cores_well_made(plan: Plan, jobs: [Job; 64], last: [CoreRun; 16]) -> bool
 }
 
 // Is task i's job as a well made state has it, `here` being the piece that it is at or, past the list, any other?
-fn job_well_made(i: usize, task: Task, job: Job, here: Piece, placed: usize) -> bool
-    ensures { λ r. ⌜ ((p : Plan) → length (p .pieces) ≡ 128 → taskOf p i ≡ task → p .placed ≡ placed → pieceOf p (min (job .piece) 127) ≡ here → r ≡ jobWellMade p i job) ⌝ }
+fn job_well_made(i: TaskNo, task: Task, job: Job, here: Piece, placed: usize) -> bool
+    ensures { λ r. ⌜ ((p : Plan) → length (p .pieces) ≡ 128 → taskOf p (i .0) ≡ task → p .placed ≡ placed → pieceOf p (min (job .piece) 127) ≡ here → r ≡ jobWellMade p (i .0) job) ⌝ }
 {
     let place = job.piece as usize;
     let fits = (1 <= job.age) & (job.age <= task.period);
     let exists = (place < placed)
         & (place < 128)
-        & (here.task.index() == i)
+        & (here.task.0 == i.0)
         & (job.ran < here.cost);
     let nowhere = (job.piece == 0) & (job.ran == 0) & !job.late;
     let phase = job.phase;

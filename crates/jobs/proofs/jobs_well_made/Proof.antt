@@ -42,6 +42,9 @@ mul-here c = search needs
 element-copy-out-here : tie.Need-element-copy-out-here Inv-loop μ-loop
 element-copy-out-here c = search needs
 
+cast-t21 : tie.Need-cast-t21 Inv-loop μ-loop
+cast-t21 c = omega (arith, c .before .before .before .before .before .loop .inv .1)
+
 mul-job-well-made : tie.Need-mul-job-well-made Inv-loop μ-loop
 mul-job-well-made c = search needs
 
@@ -85,6 +88,7 @@ jobs-well-made-spec =
     smaller-requires-2
     mul-here
     element-copy-out-here
+    cast-t21
     mul-job-well-made
     element-copy-out-job-well-made
     job-well-made-requires
