@@ -11,3 +11,4 @@ pub mod Checked
 pub mod Sitting
 pub mod Steps
 pub mod Judging
+pub mod Totals

@@ -1,9 +1,10 @@
--- Document 01's examples marked P, and its run of 20 ticks.
+-- Document 01's examples marked P, its run of 20 ticks, and examples of our own where a wrong definition could pass the others.
+use mathlib.Core.Bool.{true, false}
 use mathlib.Core.List.{List, [], _∷_}
 use mathlib.Core.Option.{Option, none, some}
 use Prim.Native.Nat.{ℕ}
 use Rattle.tasks.specs.declared.Task.{Task}
-use Rattle.examples.specs.Example.{timed, whole, share, Line, line, Example, interferes, allows, lays, refuses, runs}
+use Rattle.examples.specs.Example.{timed, whole, share, Line, line, at, Example, interferes, allows, lays, refuses, runs, ticks, stops}
 
 -- (6,10,10) three times, and five times
 abbrev three : List Task
@@ -17,6 +18,13 @@ five = timed 6 10 10 ∷ timed 6 10 10 ∷ timed 6 10 10 ∷ timed 6 10 10 ∷ t
 
 abbrev listed : List Line → List Line
 listed rest = line 0 0 whole 6 ∷ line 1 1 whole 6 ∷ line 2 0 share 4 ∷ line 2 1 share 2 ∷ rest
+
+-- (6,10,20) alone, and (2,4,20) beside (3,9,20)
+abbrev roomy : List Task
+roomy = timed 6 10 20 ∷ []
+
+abbrev pair : List Task
+pair = timed 2 4 20 ∷ timed 3 9 20 ∷ []
 
 -- rows of two and of three cores
 abbrev two : ℕ → Option ℕ → List (Option ℕ)
@@ -49,4 +57,20 @@ document =
     ∷ runs 3 five (on3 3 4 2 ∷ on3 3 4 2 ∷ on3 3 1 4 ∷ on3 3 1 4 ∷ on3 0 3 4 ∷ on3 0 3 4 ∷ on3 0 1 2 ∷ on3 0 1 2 ∷ on3 0 1 2 ∷ on3 0 1 2 ∷ []) 0 4
     -- the run of 20 ticks of P3's plan, and its totals
     ∷ runs 2 three (tenRows (tenRows [])) 0 4
+    -- the limit of a share is taken over the D that is left, not over d: core 1 would close too early
+    ∷ lays 3 (timed 8 13 13 ∷ timed 4 10 10 ∷ timed 11 16 16 ∷ timed 7 10 13 ∷ timed 3 7 8 ∷ timed 1 10 10 ∷ [])
+        (line 0 0 whole 8 ∷ line 1 1 whole 4 ∷ line 2 2 whole 11 ∷ line 3 0 share 5 ∷ line 3 1 share 2 ∷ line 4 1 share 2 ∷ line 4 2 share 1 ∷ line 5 2 whole 1 ∷ [])
+    -- age = d and no mark is late, and a total rises up to 4,294,967,295 and stops there
+    ∷ ticks 1 roomy (at 10 0 0 ∷ []) [] 0 0 (some 0 ∷ []) (true ∷ []) 1 0
+    ∷ ticks 1 roomy (at 10 0 0 ∷ []) [] 4294967294 0 (some 0 ∷ []) (true ∷ []) 4294967295 0
+    ∷ ticks 1 roomy (at 10 0 0 ∷ []) [] 4294967295 0 (some 0 ∷ []) (true ∷ []) 4294967295 0
+    -- the same for preemptions: task 1 ran last, is active and is pushed aside by task 0, which has the shorter deadline
+    ∷ ticks 1 pair (at 1 0 0 ∷ at 2 1 1 ∷ []) (some 1 ∷ []) 0 4294967294 (some 0 ∷ []) (false ∷ false ∷ []) 0 4294967295
+    ∷ ticks 1 pair (at 1 0 0 ∷ at 2 1 1 ∷ []) (some 1 ∷ []) 0 4294967295 (some 0 ∷ []) (false ∷ false ∷ []) 0 4294967295
+    -- a job of age above d without a mark is never marked
+    ∷ ticks 1 roomy (at 11 0 0 ∷ []) [] 0 0 (some 0 ∷ []) (false ∷ []) 0 0
+    -- a state is not well made if a task stands last on two cores, or if as many ticks ran as the piece costs
+    ∷ stops 2 roomy (at 3 0 0 ∷ []) (some 0 ∷ some 0 ∷ []) 9
+    ∷ ticks 1 roomy (at 7 0 5 ∷ []) [] 0 0 (some 0 ∷ []) (false ∷ []) 0 0
+    ∷ stops 1 roomy (at 7 0 6 ∷ []) [] 9
     ∷ []
