@@ -8,7 +8,7 @@ use native.Mathlib.Nat.{le-trans}
 use native.Mathlib.Omega.{arith}
 use lib.Dec.{leb, ltb, eqb}
 use borrow.Author.Tests.{eq-eqb, eqb-true, ltb-true, leb-true, not-false}
-use Rattle.tasks.proofs.Below.{all-each, any-make, first-holds, first-le, sum-up, sum-none}
+use Rattle.tasks.proofs.Below.{all-each, any-make, first-holds, first-le, sum-up}
 use Rattle.tasks.proofs.Bools.{both}
 use Rattle.tasks.specs.Below.{any, first}
 use Rattle.tasks.proofs.Tables.{GoodTable, accepted-good, good-accepted}
@@ -18,17 +18,13 @@ use Rattle.tasks.specs.declared.Answer.the-variants.{Accepted, Refused}
 use Rattle.tasks.specs.declared.Task.{Task}
 use Rattle.tasks.proofs.Answers.{accepted-not}
 use Rattle.plans.proofs.Shaped.{Fits, fits-say, follows-says, tasks-refused, shape-refused, shape-accepted}
-use Rattle.plans.proofs.Costs.{costs-own}
+use Rattle.plans.proofs.Costs.{costs-own, costs-away}
 use Rattle.plans.specs.Pieces.{taskOf, pieceOf, costs, earlier}
 use Rattle.plans.specs.Shape.{sameTask, inOrder, isLast, pieceFits, shape, checkedPlan}
 use Rattle.plans.specs.declared.Piece.{Piece}
 use Rattle.plans.specs.declared.Plan.{Plan}
 
--- ---- the costs of a task's pieces
-costs-away : (pc : ℕ → Piece) (i k : ℕ) → ((j : ℕ) → j < k → eqb (pc j .task .0) i ≡ false) → costs pc i k ≡ 0
-unfolding costs
-costs-away pc i k h = sum-none k _ (λ j l. rw (h j l))
-
+-- a task's costs rise from piece to piece
 costs-up : (pc : ℕ → Piece) (i j k : ℕ) → j ≤ k → costs pc i j ≤ costs pc i k
 unfolding costs
 costs-up pc i j k h = sum-up j k _ h

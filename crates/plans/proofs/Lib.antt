@@ -6,3 +6,6 @@ pub mod Settled
 pub mod Shaped
 pub mod InShape
 pub mod SamePlans
+pub mod ToWords
+pub mod FromWords
+pub mod InWords

@@ -9,14 +9,13 @@ use native.Mathlib.Numerals.{add-one}
 use native.Mathlib.Omega.{arith}
 use lib.Dec.{leb, ltb, eqb}
 use borrow.Author.Tests.{eq-eqb, ne-eqb, eqb-true, lt-ltb, le-ltb, ltb-true, le-leb, leb-true}
-use Rattle.tasks.proofs.Below.{sum-none}
 use Rattle.tasks.proofs.Bools.{clash, both, not-first, not-second, one-of, or-false, not-twice}
 use Rattle.tasks.specs.Tables.{checkedTasks}
 use Rattle.tasks.specs.declared.Answer.the-variants.{Accepted, Refused}
 use Rattle.tasks.specs.declared.Refusal.{Refusal}
 use Rattle.tasks.specs.declared.Refusal.the-variants.{NoPlanShape}
 use Rattle.tasks.specs.declared.Task.{Task}
-use Rattle.plans.proofs.Costs.{costs-none, costs-own}
+use Rattle.plans.proofs.Costs.{costs-none, costs-own, costs-away}
 use Rattle.plans.specs.Pieces.{taskOf, pieceOf, costs}
 use Rattle.plans.specs.Shape.{isShare, sameTask, follows, inOrder, isLast, pieceFits, shape, checkedPlan}
 use Rattle.plans.specs.declared.Piece.{Piece}
@@ -78,8 +77,7 @@ module _ (pc : ℕ → Piece) (k : ℕ) (ordered : (j : ℕ) → j < k → inOrd
 
   -- a task that none of them reaches has no cost among them
   pub costs-later : (i j : ℕ) → j < k → pc j .task .0 < i → costs pc i (suc j) ≡ 0
-  unfolding costs
-  costs-later i j h l = sum-none (suc j) _ (λ x b. rw (ne-eqb (pc x .task .0) i (λ e. omega (arith, tasks-rise x j (omega arith) h))))
+  costs-later i j h l = costs-away pc i (suc j) (λ x b. ne-eqb (pc x .task .0) i (λ e. omega (arith, tasks-rise x j (omega arith) h)))
 
   -- a whole piece has no piece of its task before it
   pub whole-first : (q : ℕ) → q < k → isShare (pc q .kind) ≡ false → costs pc (pc q .task .0) q ≡ 0

@@ -3,3 +3,4 @@ pub mod Interference
 pub mod Rank
 pub mod Margins
 pub mod Shape
+pub mod InWords

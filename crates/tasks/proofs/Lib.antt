@@ -2,6 +2,7 @@ pub mod Bools
 pub mod Below
 pub mod Padded
 pub mod Answers
+pub mod Refusals
 pub mod Tables
 pub mod Places
 pub mod Tabulate

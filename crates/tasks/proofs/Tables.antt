@@ -1,5 +1,5 @@
 -- What the tests of a table say, and which answer each finding gives.
-use mathlib.Core.Path.{_≡_, refl, sym, _∙_}
+use mathlib.Core.Path.{_≡_, refl, sym, ap, _∙_}
 use mathlib.Core.Bool.{Bool, true, false, not, _&&_}
 use Prim.Native.Nat.{ℕ, _≤_, _<_}
 use lib.Dec.{leb}
@@ -8,11 +8,13 @@ use borrow.Author.Tests.{le-leb, leb-true, not-true, not-false}
 use Rattle.tasks.proofs.Below.{any-make, any-each, any-none, first-holds, first-before, first-is}
 use Rattle.tasks.proofs.Bools.{both, both-make}
 use Rattle.tasks.specs.Below.{any, first}
+use Rattle.tasks.specs.Refusals.{number}
 use Rattle.tasks.specs.Tables.{taskNo, coresFit, tasksFit, valuesFit, checkedTasks}
 use Rattle.tasks.specs.declared.Answer.the-variants.{Accepted, Refused}
+use Rattle.tasks.specs.declared.Refusal.{Refusal}
 use Rattle.tasks.specs.declared.Refusal.the-variants.{CoresGiven, TasksGiven, ValuesOf}
 use Rattle.tasks.specs.declared.Task.{Task}
-use Rattle.tasks.proofs.Answers.{accepted-not}
+use Rattle.tasks.proofs.Answers.{accepted-not, refused-is}
 
 -- 1 ≤ c ≤ d ≤ p ≤ 1,000,000, as orders
 pub record Ranges (t : Task) : Type 0 where
@@ -84,6 +86,17 @@ accepted-good m n ts h = go _ _ _ refl refl refl
       tasks = counts-say n 64 q;
       values = λ i l. values-say (ts i) (not-false _ (any-each n bad r i l));
     }
+
+-- the check of a table refuses with 4, 5 or 6
+pub table-number : (m n : ℕ) (ts : ℕ → Task) (r : Refusal) → checkedTasks m n ts ≡ Refused r → number r ≤ 6
+unfolding checkedTasks
+table-number m n ts r h = go _ _ _ refl refl refl
+  where
+    go : (a b c : Bool) → coresFit m ≡ a → tasksFit n ≡ b → any n (λ i. not (valuesFit (ts i))) ≡ c → number r ≤ 6
+    go false b c p q s = let e : CoresGiven m ≡ r = refused-is (rw p at h) in omega (arith, ap number e)
+    go true false c p q s = let e : TasksGiven n ≡ r = refused-is (rw (p, q) at h) in omega (arith, ap number e)
+    go true true true p q s = let e : ValuesOf (taskNo (first n (λ i. not (valuesFit (ts i))))) ≡ r = refused-is (rw (p, q, s) at h) in omega (arith, ap number e)
+    go true true false p q s = accepted-not (sym (rw (p, q, s) at h))
 
 -- and such a table is accepted
 pub values-fit : (t : Task) → Ranges t → valuesFit t ≡ true

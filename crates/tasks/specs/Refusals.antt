@@ -1,5 +1,8 @@
 -- What we say no with: each refusal's number in document 01's table, and what it tells.
+use mathlib.Core.Path.{_≡_}
 use Prim.Native.Nat.{ℕ}
+use Rattle.tasks.specs.declared.Answer.{Answer}
+use Rattle.tasks.specs.declared.Answer.the-variants.{Refused}
 use Rattle.tasks.specs.declared.Refusal.{Refusal}
 use Rattle.tasks.specs.declared.Refusal.the-variants as no
 
@@ -45,3 +48,10 @@ tells (no.NotRun i) = task (i .0)
 tells (no.TooSoon i) = task (i .0)
 tells (no.StillActive i) = task (i .0)
 tells (no.BufferShort n) = needed n
+
+-- the answer is the refusal with this number, and tells this
+pub record Refuses (a : Answer) (n : ℕ) (told : Told) : Type 0 where
+  pub refusal : Refusal
+  pub answer : a ≡ Refused refusal
+  pub numbered : number refusal ≡ n
+  pub telling : tells refusal ≡ told
