@@ -11,11 +11,14 @@ pub mod Reached
 pub mod Placing
 pub mod Shape
 pub mod Certified
-pub mod Refusal
 pub mod Turns
 pub mod Allowed
 pub mod Putting
 pub mod Searching
 pub mod Trying
 pub mod Offered
+pub mod OtherCores
+pub mod RunsOut
+pub mod NoPlace
+pub mod Refusal
 pub mod Settled

@@ -68,7 +68,8 @@ ready-alone i d D room x q h w = omega (arith, costs-same pc′ pc n (put-old z 
 
 -- what a draft that the layout reaches offers the search for the next task
 module _ (t : Table) (good : checkedTable t ≡ Accepted) (i : ℕ) (d : Draft) (so-far : layFirst (start t) i ≡ laid d) (known : i < t .count) where
-  table-kept : taskOf (d .plan) i ≡ table.taskOf t i
+  -- its task i is the table's
+  pub table-kept : taskOf (d .plan) i ≡ table.taskOf t i
   unfolding start
   table-kept = rw (lay-keeps (start t) i d so-far .tasks) (start-task t good i known)
 

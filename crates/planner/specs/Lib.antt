@@ -3,3 +3,4 @@ pub mod Whole
 pub mod Shared
 pub mod Layout
 pub mod Asked
+pub mod NotPlaceable

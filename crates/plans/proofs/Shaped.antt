@@ -18,6 +18,8 @@ use Rattle.tasks.specs.declared.Task.{Task}
 use Rattle.plans.proofs.Costs.{costs-none, costs-own, costs-away}
 use Rattle.plans.specs.Pieces.{taskOf, pieceOf, costs}
 use Rattle.plans.specs.Shape.{isShare, sameTask, follows, inOrder, isLast, pieceFits, shape, checkedPlan}
+use Rattle.plans.specs.declared.Kind.{Kind}
+use Rattle.plans.specs.declared.Kind.the-variants.{Whole, Share}
 use Rattle.plans.specs.declared.Piece.{Piece}
 use Rattle.plans.specs.declared.Plan.{Plan}
 
@@ -25,6 +27,15 @@ use Rattle.plans.specs.declared.Plan.{Plan}
 pub where-so : (a : Bool) {b c : Bool} → (a ≡ true → b ≡ c) → a && b ≡ a && c
 where-so true h = h refl
 where-so false h = refl
+
+-- what passes as a share is one, and what does not is whole
+pub share-is : (k : Kind) → isShare k ≡ true → k ≡ Share
+share-is Whole h = clash h refl
+share-is Share h = refl
+
+pub whole-is : (k : Kind) → isShare k ≡ false → k ≡ Whole
+whole-is Whole h = refl
+whole-is Share h = clash refl h
 
 module _ (a b : Piece) where
   pub next-follows : b .task .0 ≡ a .task .0 + 1 → follows a b ≡ true

@@ -13,18 +13,13 @@ use Rattle.tasks.specs.Below.{first}
 use Rattle.tasks.specs.declared.Task.{Task}
 use Rattle.plans.proofs.Costs.{costs-own, costs-over}
 use Rattle.plans.proofs.InShape.{tests, fits, follower, Begins, begins}
-use Rattle.plans.proofs.Shaped.{tasks-rise, same-follows}
+use Rattle.plans.proofs.Shaped.{share-is, tasks-rise, same-follows}
 use Rattle.plans.specs.InWords.{Of, OneWhole, OnlyShares, InWords}
 use Rattle.plans.specs.Pieces.{costs}
 use Rattle.plans.specs.Shape.{isShare, inOrder, isLast, shape}
 use Rattle.plans.specs.declared.Kind.the-variants.{Whole, Share}
 use Rattle.plans.specs.declared.Kind.{Kind}
 use Rattle.plans.specs.declared.Piece.{Piece}
-
--- what passes as a share is one
-share-is : (k : Kind) → isShare k ≡ true → k ≡ Share
-share-is Whole h = clash h refl
-share-is Share h = refl
 
 -- a piece before one of its own task is not the last
 pub not-last : (pc : ℕ → Piece) (n j : ℕ) → suc j < n → pc j .task .0 ≡ pc (suc j) .task .0 → isLast pc n j ≡ true → ⊥

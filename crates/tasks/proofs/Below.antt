@@ -1,6 +1,6 @@
 -- Laws of tests and sums over the numbers below n.
 use mathlib.Core.Path.{_≡_, refl, sym, ap}
-use mathlib.Core.Bool.{Bool, true, false, _&&_, _||_, cond}
+use mathlib.Core.Bool.{Bool, true, false, not, _&&_, _||_, cond}
 use mathlib.Core.Logic.{_⊎_, inl, inr, ⊎-elim}
 use Prim.Native.Nat.{ℕ, zero, suc, _+_, _*_, _≤_, _<_}
 use native.Mathlib.Decide.{ℕ-discrete}
@@ -8,6 +8,7 @@ use native.Mathlib.Nat.{le-refl, suc-mul}
 use native.Mathlib.Numerals.{add-one}
 use native.Mathlib.Omega.{arith}
 use lib.Arith.{le-zero}
+use borrow.Author.Tests.{not-false}
 use Rattle.tasks.proofs.Bools.{clash, either, both, both-make, not-first, not-second, one-of, left-one, right-one, neither}
 use Rattle.tasks.specs.Below.{all, any, first, sum, count}
 
@@ -78,6 +79,14 @@ any-make (suc n) f j l e = go (under l) (any-make n f j)
 
 pub any-each : (n : ℕ) (f : ℕ → Bool) → any n f ≡ false → (j : ℕ) → j < n → f j ≡ false
 any-each n f h j l = ⊎-elim (λ e. clash (any-make n f j l e) h) (λ e. e) (either (f j))
+
+-- where not all pass, one fails
+pub all-found : (n : ℕ) (f : ℕ → Bool) → all n f ≡ false → Found n (λ k. not (f k))
+all-found n f h = go (either (any n (λ k. not (f k))))
+  where
+    go : (any n (λ k. not (f k)) ≡ true) ⊎ (any n (λ k. not (f k)) ≡ false) → Found n (λ k. not (f k))
+    go (inl e) = any-found n _ e
+    go (inr e) = clash (all-make n f (λ j l. not-false _ (any-each n _ e j l))) h
 
 pub any-none : (n : ℕ) (f : ℕ → Bool) → ((j : ℕ) → j < n → f j ≡ false) → any n f ≡ false
 unfolding any
