@@ -1,48 +1,28 @@
 -- A piece put on one core changes no other core's limit.
-use mathlib.Core.Path.{_≡_, refl, ap, _∙_}
-use mathlib.Core.Logic.{_⊎_, inl, inr}
+use mathlib.Core.Path.{_≡_, refl, sym, ap, _∙_}
 use mathlib.Core.Bool.{Bool, true, false, cond}
 use Prim.Native.Nat.{ℕ, zero, suc, _+_, _-_, _/_, _≤_, _<_, min}
 use native.Mathlib.Numerals.{add-one}
 use native.Mathlib.Omega.{arith}
 use lib.Dec.{eqb}
 use lib.ListN.{length}
-use borrow.Author.Tests.{eqb-true, ne-eqb}
-use Rattle.tasks.proofs.Bools.{either}
-use Rattle.tasks.specs.declared.Task.{Task}
+use borrow.Author.Tests.{eqb-true}
 use Rattle.bounds.specs.Bound.{localDeadline, bound}
-use Rattle.plans.proofs.Rank.{above-core}
+use Rattle.plans.proofs.Rank.{above-apart}
 use Rattle.plans.specs.Interference.{periods, interference}
 use Rattle.plans.specs.Pieces.{taskOf, pieceOf}
 use Rattle.plans.specs.Rank.{above}
 use Rattle.plans.specs.declared.Piece.{Piece}
 use Rattle.plans.specs.declared.Plan.{Plan}
+use Rattle.planner.proofs.Allowed.{limit-other}
 use Rattle.planner.proofs.More.{local-kept, bound-grows}
 use Rattle.planner.proofs.Put.{put-old, put-new}
 use Rattle.planner.specs.Limit.{allowance, limitOf, limit}
 use Rattle.planner.specs.Whole.{put}
 
--- pieces on two cores are not ranked
-above-apart : (ts : ℕ → Task) (a b : Piece) → (a .core .0 ≡ b .core .0 → ⊥) → above ts a b ≡ false
-above-apart ts a b h = go (either (above ts a b))
-  where
-    go : (above ts a b ≡ true) ⊎ (above ts a b ≡ false) → above ts a b ≡ false
-    go (inl e) = absurd (h (above-core ts a b e))
-    go (inr e) = e
-
 -- the same local deadline and the same bound allow the same
 allows-same : (p D D′ b b′ : ℕ) → D ≡ D′ → b ≡ b′ → (D - b) / periods p D ≡ (D′ - b′) / periods p D′
 allows-same p D D′ b b′ e f = rw (e, f)
-
--- a piece on another core does not count for a core's limit
-limit-step : (v : Plan) (p x q : ℕ) → eqb (pieceOf v q .core .0) x ≡ false → limitOf v p x (suc q) ≡ limitOf v p x q
-unfolding limitOf
-limit-step v p x q e = rw e
-
--- one piece more
-one-more : (z : Piece) (w : Plan) → put z w .placed ≡ suc (w .placed)
-unfolding put
-one-more z w = add-one (w .placed)
 
 module _ (z : Piece) (w : Plan) (room : w .placed < length (w .pieces)) where
   -- the bound of a piece on another core stays
@@ -73,13 +53,5 @@ module _ (z : Piece) (w : Plan) (room : w .placed < length (w .pieces)) where
 
   -- so another core's limit stays
   pub limit-kept : (p x : ℕ) → (x ≡ z .core .0 → ⊥) → limit (put z w) p x ≡ limit w p x
-  limit-kept p x away = go ∙ limits-kept p x (w .placed) (omega arith) away
-    where
-      other : eqb (pieceOf (put z w) (w .placed) .core .0) x ≡ false
-      other = rw (put-new z w room) (ne-eqb (z .core .0) x (λ e. away (omega arith)))
-
-      last : limitOf (put z w) p x (suc (w .placed)) ≡ limitOf (put z w) p x (w .placed)
-      last = limit-step (put z w) p x (w .placed) other
-
-      go : limit (put z w) p x ≡ limitOf (put z w) p x (w .placed)
-      go = ap (limitOf (put z w) p x) (one-more z w) ∙ last
+  unfolding put
+  limit-kept p x away = limit-other (put z w) p x (w .placed) (λ e. away (sym e ∙ ap (λ (u : Piece). u .core .0) (put-new z w room))) ∙ limits-kept p x (w .placed) (omega arith) away

@@ -1,6 +1,6 @@
 -- Whole: a task that goes whole to a core that takes it keeps a draft, and an empty core that is open takes every task.
 use mathlib.Core.Path.{_≡_, refl, sym, ap}
-use mathlib.Core.Bool.{Bool, true, false, not, _||_}
+use mathlib.Core.Bool.{true, false, not, _||_}
 use Prim.Native.Nat.{ℕ, suc, _+_, _-_, _≤_, _<_}
 use native.Mathlib.Decide.{ℕ-discrete}
 use native.Mathlib.Nat.{le-refl}
@@ -13,7 +13,7 @@ use Rattle.tasks.proofs.Below.{all-each, all-make, sum-none}
 use Rattle.tasks.proofs.Bools.{clash, both, both-make, right-one}
 use Rattle.tasks.proofs.Tables.{Ranges}
 use Rattle.tasks.specs.Below.{all}
-use Rattle.plans.proofs.Rank.{above-core, above-self, above-whole}
+use Rattle.plans.proofs.Rank.{above-apart, above-core, above-self, above-whole}
 use Rattle.bounds.specs.Bound.{localDeadline, load, bound}
 use Rattle.plans.specs.Pieces.{taskOf, pieceOf, costs}
 use Rattle.plans.specs.Rank.{above}
@@ -82,13 +82,9 @@ module _ (i : ℕ) (d : Draft) (R : LaidBefore i d) (known : i < d .plan .count)
     unfolding v n z
     empty-alone j h = go (ℕ-discrete j n)
       where
-        by : (b : Bool) → j < n → above (taskOf (d .plan)) (pieceOf (d .plan) j) z ≡ b → above (taskOf (d .plan)) (pieceOf (d .plan) j) z ≡ false
-        by false l e = e
-        by true l e = absurd (empty j l (above-core (taskOf (d .plan)) (pieceOf (d .plan) j) z e))
-
         go : Dec (j ≡ n) → above (taskOf (d .plan)) (pieceOf v j) z ≡ false
         go (yes e) = rw (e, put-new z (d .plan) inside) (above-self (taskOf (d .plan)) z)
-        go (no e) = rw (put-old z (d .plan) j (omega arith)) (by _ (omega arith) refl)
+        go (no e) = rw (put-old z (d .plan) j (omega arith)) (above-apart (taskOf (d .plan)) (pieceOf (d .plan) j) z (empty j (omega arith)))
 
     empty-load : (L : ℕ) → load (taskOf (d .plan)) (pieceOf v) (suc n) z L ≡ 0
     unfolding load

@@ -7,8 +7,8 @@ use native.Mathlib.Decide.{decLt, ℕ-discrete}
 use native.Mathlib.Nat.{le-refl}
 use native.Mathlib.Omega.{arith}
 use lib.Dec.{ltb, eqb}
-use borrow.Author.Tests.{eq-eqb, eqb-true, lt-ltb, le-ltb, ltb-true}
-use Rattle.tasks.proofs.Bools.{clash, both, both-make, not-second, one-of, left-one, right-one}
+use borrow.Author.Tests.{eq-eqb, ne-eqb, eqb-true, lt-ltb, le-ltb, ltb-true}
+use Rattle.tasks.proofs.Bools.{clash, both, both-make, not-first, not-second, one-of, left-one, right-one}
 use Rattle.tasks.specs.declared.Task.{Task}
 use Rattle.plans.specs.Rank.{outranks, above}
 use Rattle.plans.specs.declared.Kind.{Kind}
@@ -76,6 +76,11 @@ module _ (ts : ℕ → Task) where
   pub above-core : (a b : Piece) → above ts a b ≡ true → a .core .0 ≡ b .core .0
   unfolding above
   above-core a b h = eqb-true _ _ (both {a = eqb (a .core .0) (b .core .0)} h .0)
+
+  -- pieces on two cores are not ranked
+  pub above-apart : (a b : Piece) → (a .core .0 ≡ b .core .0 → ⊥) → above ts a b ≡ false
+  unfolding above
+  above-apart a b h = not-first _ (ne-eqb (a .core .0) (b .core .0) h)
 
   above-rank : (a b : Piece) → above ts a b ≡ true → outranking a b ≡ true
   unfolding above

@@ -10,10 +10,9 @@ use Rattle.plans.specs.Shape.{isLast, checkedPlan}
 use Rattle.plans.specs.declared.Plan.{Plan}
 use Rattle.dispatch.specs.States.{jobOf}
 use Rattle.schedules.specs.Certificate.{Certificate}
-use Rattle.promise.specs.Demand3.{reached}
 use Rattle.schedules.specs.Model.{Model, Sound, active}
 use Rattle.schedules.specs.Moments.{Moment, Reached}
-use Rattle.promise.specs.Requests.{Request}
+use Rattle.promise.specs.Requests.{Request, reached}
 use Rattle.promise.specs.View.{stageOf, momentOf, modelOf}
 use Rattle.promise.proofs.Runs.{reach}
 use Rattle.schedules.proofs.Safe.{in-time-last}

@@ -21,8 +21,10 @@ use Rattle.promise.specs.Demand3.{Demand3, PlanOf}
 use Rattle.promise.specs.Requests.{after}
 use Rattle.promise.specs.View.{modelOf}
 use Rattle.promise.proofs.Cores.{one-core, cores-rise}
+use Rattle.promise.proofs.LeftOut.{left-out}
 use Rattle.promise.proofs.Runs.{after-append, due-over, none-late}
 use Rattle.promise.proofs.Sound.{piece-fits, within-cost}
+use Rattle.promise.proofs.TooSoon.{soon-refused, soon-named}
 
 module _ (p : Plan) (good : checkedPlan p ≡ Accepted) where
   checked : GoodPlan p
@@ -37,6 +39,9 @@ module _ (p : Plan) (good : checkedPlan p ≡ Accepted) where
     none = none-late p checked limit C short;
     oneCore = one-core p;
     rises = cores-rise p;
+    soon = soon-refused p checked;
+    eleven = soon-named p checked;
+    uncounted = left-out p;
   }
 
   -- document 01's certificate: the limits are the local deadlines

@@ -29,10 +29,10 @@ use Rattle.dispatch.specs.declared.State.{State}
 use Rattle.jobs.specs.declared.Tasks.{Tasks}
 use Rattle.dispatch.specs.declared.Ticked.{Ticked}
 use Rattle.schedules.specs.Certificate.{Certificate, Timely}
-use Rattle.promise.specs.Demand3.{reached, Due}
+use Rattle.promise.specs.Demand3.{Due}
 use Rattle.schedules.specs.Moments as moments
 use Rattle.schedules.specs.Moments.{fresh, finished, goes, Reached, start, next}
-use Rattle.promise.specs.Requests.{Request, asked, isAccepted, after, tally, namedOn, ticks, timesNamed, finishes}
+use Rattle.promise.specs.Requests.{Request, asked, isAccepted, after, reached, tally, namedOn, ticks, timesNamed, finishes}
 use Rattle.promise.specs.View.{stageOf, ranLast, momentOf, modelOf}
 use Rattle.promise.proofs.Accepting.{Passed, tick-says}
 use Rattle.promise.proofs.Join.{stages, named-goes, tick-step}

@@ -2,23 +2,21 @@
 -- That it holds for every table for which the planner answers with a plan is `no-job-is-late` in proofs/Demand3.antt.
 use mathlib.Core.Path.{_≡_}
 use mathlib.Core.Logic.{_⊎_}
-use mathlib.Core.Bool.{true}
+use mathlib.Core.Bool.{true, false}
 use mathlib.Core.List.{List, [], _∷_, _++_}
 use Prim.Native.Nat.{ℕ, _≤_, _<_}
+use Rattle.tasks.specs.Refusals.{task, Refuses}
 use Rattle.tasks.specs.Tables as table
 use Rattle.tasks.specs.declared.Table.{Table}
 use Rattle.plans.specs.Pieces.{taskOf}
 use Rattle.plans.specs.declared.Plan.{Plan}
 use Rattle.jobs.specs.Jobs.{names}
-use Rattle.dispatch.specs.States.{freshState, jobOf}
+use Rattle.dispatch.specs.States.{jobOf}
 use Rattle.jobs.specs.Sets.{member}
 use Rattle.jobs.specs.declared.Phase.the-variants.{Ended}
 use Rattle.dispatch.specs.declared.State.{State}
-use Rattle.promise.specs.Requests.{Request, asked, accepts, after, namedOn, ticks, timesNamed, finishes, releases}
-
--- the state of plan p that a list of requests leads to from the fresh one
-abbrev pub reached : Plan → List Request → State
-reached p qs = after p freshState qs
+use Rattle.promise.specs.Requests.{Request, asked, accepts, after, reached, namedOn, ticks, timesNamed, finishes, releases}
+use Rattle.promise.specs.TooSoon.{AsksSoon, FinishRefused, ChangesNothing}
 
 -- No answer names a task on two cores, in any state.
 abbrev pub OneCore : Plan → Type 0
@@ -48,6 +46,13 @@ pub record Demand3 (p : Plan) : Type 0 where
   pub none : (qs : List Request) → reached p qs .late ≡ 0
   pub oneCore : OneCore p
   pub rises : CoresRise p
+  -- a request that releases a task too soon is refused
+  pub soon : (qs : List Request) (q : Request) (i : ℕ) → AsksSoon p qs q i → accepts p (reached p qs) q ≡ false
+  -- with 11, which tells the lowest such task, unless 10 comes before it
+  pub eleven : (qs : List Request) (q : Request) (i : ℕ) → AsksSoon p qs q i → ((k : ℕ) → k < i → AsksSoon p qs q k → ⊥) →
+      Refuses (asked p (reached p qs) q .answer) 11 (task i) ⊎ FinishRefused p (reached p qs) q
+  -- and a refused request does not count
+  pub uncounted : (before : List Request) (q : Request) (later : List Request) → accepts p (reached p before) q ≡ false → ChangesNothing p before q later
 
 -- a plan of the table's tasks on the table's cores
 pub record PlanOf (t : Table) (p : Plan) : Type 0 where

@@ -1,3 +1,4 @@
 pub mod View
 pub mod Requests
+pub mod TooSoon
 pub mod Demand3

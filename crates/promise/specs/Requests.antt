@@ -9,6 +9,7 @@ use Rattle.tasks.specs.declared.Answer.the-variants.{Accepted, Refused}
 use Rattle.plans.specs.declared.Plan.{Plan}
 use Rattle.jobs.specs.Jobs.{noRun, names}
 use Rattle.jobs.specs.Sets.{member}
+use Rattle.dispatch.specs.States.{freshState}
 use Rattle.dispatch.specs.Tick.{tick}
 use Rattle.jobs.specs.declared.Runner.{Runner}
 use Rattle.dispatch.specs.declared.State.{State}
@@ -35,6 +36,10 @@ accepts p s q = isAccepted (asked p s q .answer)
 unfoldable pub after : Plan → State → List Request → State
 after p s [] = s
 after p s (q ∷ qs) = after p (asked p s q .state) qs
+
+-- the state of plan p that a list of requests leads to from the fresh one
+abbrev pub reached : Plan → List Request → State
+reached p qs = after p freshState qs
 
 -- how many of a list of requests are accepted and pass a test of the request and its answer
 unfoldable pub tally : (Request → Ticked → Bool) → Plan → State → List Request → ℕ
