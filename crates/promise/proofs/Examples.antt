@@ -1,17 +1,24 @@
 -- That the hypotheses of demand 3 are met: document 01's P6 board, a slope table on four and on eight cores,
--- and a run in which a share is held back on its last core by a later one.
+-- and a run of P6's board in which a share is held back on its last core by a later one, a job comes to its deadline and a release is asked for too soon.
 use mathlib.Core.Path.{_≡_, refl}
+use mathlib.Core.Logic.{_⊎_, inl, inr}
+use mathlib.Core.Bool.{true}
 use mathlib.Core.List.{List, [], _∷_, _++_, map}
-use Prim.Native.Nat.{ℕ, _-_}
+use Prim.Native.Nat.{ℕ, _-_, _≤_, _<_}
+use native.Mathlib.Omega.{arith}
 use lib.ListN.{length, replicate, take, drop}
+use borrow.Author.Tests.{eqb-true}
+use Rattle.tasks.proofs.Bools.{clash}
 use Rattle.tasks.specs.Below.{all, any, first, sum, count, tabulate, padded}
+use Rattle.tasks.specs.Refusals as told
+use Rattle.tasks.specs.Refusals.{Refuses}
 use Rattle.tasks.specs.Tables.{taskNo, coreNo, noTask, checkedTasks}
 use Rattle.tasks.specs.declared.Answer.the-variants.{Accepted}
 use Rattle.tasks.specs.declared.Table.{Table}
 use Rattle.tasks.specs.declared.Task.{Task}
 use Rattle.bounds.specs.Bound.{localDeadline, load, bound}
 use Rattle.plans.specs.Interference.{interference, periods}
-use Rattle.plans.specs.Pieces.{noPiece, costs}
+use Rattle.plans.specs.Pieces.{noPiece, taskOf, costs}
 use Rattle.plans.specs.Rank.{above}
 use Rattle.plans.specs.Shape.{follows, inOrder, isLast, pieceFits, shape, checkedPlan}
 use Rattle.plans.specs.declared.Kind.{Kind}
@@ -22,19 +29,21 @@ use Rattle.planner.specs.Layout.{start, place, layFirst, planned}
 use Rattle.planner.specs.Limit.{allowance, limitOf}
 use Rattle.planner.specs.Shared.{giveShare, close, shareFrom}
 use Rattle.planner.specs.Whole.{put, takesWhole}
-use Rattle.dispatch.specs.States.{freshState, wellMade}
+use Rattle.dispatch.specs.States.{freshState, jobOf, wellMade}
 use Rattle.dispatch.specs.Refusing.{judgedSets, lowest}
 use Rattle.dispatch.specs.Tick.{judged, tick}
 use Rattle.dispatch.specs.Rules.{eachJob, finish, markLate, release, run, age, countPreempted, preempted, highest, firstPiece}
 use Rattle.jobs.specs.Sets.{member}
 use Rattle.dispatch.specs.Advance.{checked, nextState}
 use Rattle.jobs.specs.WellMade.{coreWellMade, jobWellMade}
+use Rattle.jobs.specs.declared.Phase.the-variants.{Ended}
 use Rattle.jobs.specs.declared.Runner.{Runner}
 use Rattle.jobs.specs.declared.Runner.the-variants.{Runs}
 use Rattle.dispatch.specs.declared.State.{State}
 use Rattle.jobs.specs.declared.Tasks.{Tasks}
-use Rattle.promise.specs.Demand3.{Demand3}
-use Rattle.promise.specs.Requests.{Request, asked, namedOn}
+use Rattle.promise.specs.Demand3.{Due, Demand3}
+use Rattle.promise.specs.Requests.{Request, asked, after, reached, tally, namedOn, timesNamed, finishes}
+use Rattle.promise.specs.TooSoon.{AsksSoon, FinishRefused, ChangesNothing}
 use Rattle.promise.proofs.Demand3.{no-job-is-late}
 
 task : ℕ → ℕ → ℕ → Task
@@ -112,8 +121,60 @@ releasing ts = record { finished = tasksOf []; released = tasksOf ts }
 row : ℕ → ℕ → ℕ → List Runner
 row a b c = Runs (taskNo a) ∷ Runs (taskNo b) ∷ Runs (taskNo c) ∷ []
 
+-- P6's board for ten ticks: tasks 0 to 3 are released in the first of them, task 4 in the fifth
+opening : Request
+unfolding releasing
+opening = releasing (0 ∷ 1 ∷ 2 ∷ 3 ∷ [])
+
+upToFour : List Request
+unfolding opening releasing
+upToFour = opening ∷ replicate 3 (releasing [])
+
+rest : List Request
+unfolding releasing
+rest = replicate 3 (releasing []) ++ releasing (4 ∷ []) ∷ replicate 5 (releasing [])
+
 -- Task 4 is released when task 3 comes to its last share, on core 1, and holds it back there for two ticks.
-held-back : rows sixPlan freshState (releasing (0 ∷ 1 ∷ 2 ∷ 3 ∷ []) ∷ replicate 3 (releasing []) ++ releasing (4 ∷ []) ∷ replicate 5 (releasing []))
-    ≡ replicate 4 (row 3 1 2) ++ replicate 2 (row 0 4 2) ++ row 0 3 4 ∷ row 0 3 4 ∷ row 0 1 4 ∷ row 0 1 4 ∷ []
-unfolding sixPlan task piece rows tasksOf releasing row tick nextState checked judged judgedSets lowest wellMade coreWellMade jobWellMade finish markLate release run age countPreempted preempted eachJob highest firstPiece member padded tabulate count checkedPlan checkedTasks shape pieceFits inOrder follows isLast costs above all any first sum
+held-back : rows sixPlan freshState (opening ∷ rest) ≡ replicate 4 (row 3 1 2) ++ replicate 2 (row 0 4 2) ++ row 0 3 4 ∷ row 0 3 4 ∷ row 0 1 4 ∷ row 0 1 4 ∷ []
+unfolding sixPlan task piece rows tasksOf releasing opening rest row tick nextState checked judged judgedSets lowest wellMade coreWellMade jobWellMade finish markLate release run age countPreempted preempted eachJob highest firstPiece member padded tabulate count checkedPlan checkedTasks shape pieceFits inOrder follows isLast costs above all any first sum
 held-back = refl
+
+-- ten ticks are task 3's deadline
+third-due : Due sixPlan [] opening rest 3
+unfolding sixPlan task piece tasksOf releasing opening rest tally after tick nextState checked judged judgedSets lowest wellMade coreWellMade jobWellMade finish markLate release run age countPreempted preempted eachJob highest firstPiece member padded tabulate count checkedPlan checkedTasks shape pieceFits inOrder follows isLast costs above all any first sum
+third-due = record { task = omega arith; accepted = refl; released = refl; over = refl }
+
+-- so its job has ended, having been named in as many ticks as it costs, or having been finished
+third-ended : (jobOf (reached sixPlan (opening ∷ rest)) 3 .phase ≡ Ended)
+    × ((timesNamed 3 sixPlan (reached sixPlan []) (opening ∷ rest) ≡ taskOf sixPlan 3 .cost) ⊎ ((timesNamed 3 sixPlan (reached sixPlan []) (opening ∷ rest) < taskOf sixPlan 3 .cost) × (1 ≤ finishes 3 sixPlan (reached sixPlan (opening ∷ [])) rest)))
+third-ended = (kept .0 .ends [] opening rest 3 third-due, kept .0 .shown [] opening rest 3 third-due)
+
+-- then a release of task 4 comes in the seventh tick since its last one, its period being ten
+fourth-soon : AsksSoon sixPlan (opening ∷ rest) (releasing (4 ∷ [])) 4
+unfolding sixPlan task piece tasksOf releasing opening upToFour rest tally after tick nextState checked judged judgedSets lowest wellMade coreWellMade jobWellMade finish markLate release run age countPreempted preempted eachJob highest firstPiece member padded tabulate count checkedPlan checkedTasks shape pieceFits inOrder follows isLast costs above all any first sum
+fourth-soon = record {
+  task = omega arith;
+  released = refl;
+  since = record { before = upToFour; last = releasing (4 ∷ []); later = replicate 5 (releasing []); all = refl; accepted = refl; released = refl; none = refl };
+  few = omega arith;
+}
+
+-- no other task is released, and none is finished
+only-fourth : (k : ℕ) → member (releasing (4 ∷ []) .released) k ≡ true → 4 ≡ k
+unfolding releasing tasksOf member any
+only-fourth k h = eqb-true 4 k h
+
+none-finished : (k : ℕ) → member (releasing (4 ∷ []) .finished) k ≡ true → ⊥
+unfolding releasing tasksOf member any
+none-finished k h = clash h refl
+
+-- so it is refused with 11, which tells task 4, and whatever comes later is as if it had not been asked for
+fourth-refused : Refuses (asked sixPlan (reached sixPlan (opening ∷ rest)) (releasing (4 ∷ [])) .answer) 11 (told.task 4)
+fourth-refused = go (kept .0 .eleven (opening ∷ rest) (releasing (4 ∷ [])) 4 fourth-soon (λ k l a. omega (arith, only-fourth k (a .released))))
+  where
+    go : Refuses (asked sixPlan (reached sixPlan (opening ∷ rest)) (releasing (4 ∷ [])) .answer) 11 (told.task 4) ⊎ FinishRefused sixPlan (reached sixPlan (opening ∷ rest)) (releasing (4 ∷ [])) → Refuses (asked sixPlan (reached sixPlan (opening ∷ rest)) (releasing (4 ∷ [])) .answer) 11 (told.task 4)
+    go (inl r) = r
+    go (inr f) = absurd (none-finished (f .named) (f .finished))
+
+fourth-uncounted : (later : List Request) → ChangesNothing sixPlan (opening ∷ rest) (releasing (4 ∷ [])) later
+fourth-uncounted later = kept .0 .uncounted (opening ∷ rest) (releasing (4 ∷ [])) later (kept .0 .soon (opening ∷ rest) (releasing (4 ∷ [])) 4 fourth-soon)
