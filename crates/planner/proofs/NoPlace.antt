@@ -29,6 +29,7 @@ use Rattle.planner.specs.declared.Draft.{Draft}
 
 -- whole pieces having their tasks' deadlines, one on core x is over exactly if it does not keep its bound
 module _ (v : Plan) (x : ℕ) (own : OwnDeadlines v) where
+  -- a piece that does not keep its bound is over
   over-found : Found (v .placed) (λ q. not (keepsBound v x q)) → Over v x
   over-found f =
       let b : keepsBound v x (f .place) ≡ false = not-true _ (f .holds) in
@@ -42,6 +43,7 @@ module _ (v : Plan) (x : ℕ) (own : OwnDeadlines v) where
         above = omega (arith, leb-false (bound (taskOf v) (pieceOf v) (v .placed) (f .place)) (localDeadline (taskOf v) (pieceOf v) (f .place)) (u .1), own (f .place) (f .below) (w .1));
       }
 
+  -- where a piece is over, not every whole piece keeps its bound
   over-fails : Over v x → all (v .placed) (keepsBound v x) ≡ false
   over-fails o =
       let l : localDeadline (taskOf v) (pieceOf v) (o .piece) < bound (taskOf v) (pieceOf v) (v .placed) (o .piece) = rw (own (o .piece) (o .below) (rw (o .whole))) (o .above) in
@@ -49,10 +51,12 @@ module _ (v : Plan) (x : ℕ) (own : OwnDeadlines v) where
 
 -- an open core does not take the task whole exactly if a whole piece would be over
 module _ (d : Draft) (i x : ℕ) (own : Alone (d .plan) i) where
+  -- a core that does not take it has such a piece
   takes-not : takesWhole d i x ≡ false → isClosed (d .closed) x ≡ false → NotWhole d i x
   unfolding takesWhole
   takes-not h free = over-found _ x (own x) (all-found _ _ (rw free at h))
 
+  -- a core with such a piece does not take it
   not-takes : (isClosed (d .closed) x ≡ false → NotWhole d i x) → takesWhole d i x ≡ false
   unfolding takesWhole
   not-takes h = go (either (isClosed (d .closed) x))
@@ -75,6 +79,7 @@ module _ (d : Draft) (i : ℕ) (R : LaidBefore i d) (known : i < d .plan .count)
       × (sum (d .plan .cores) (openLimit d i) < taskOf (d .plan) i .cost → shareFrom d i (taskOf (d .plan) i .cost) 0 (d .plan .cores) ≡ none)
   out = shares-out d i _ (R .long) (omega (arith, drafted-few i _ 0 d R, R .good .cores .1, R .good .tasks .1)) (R .good .values i known .some)
 
+  -- a task that finds no place is short of room
   pub none-says : place d i ≡ none → Short
   none-says h = go (either (any (d .plan .cores) (takesWhole d i)))
     where
@@ -82,5 +87,6 @@ module _ (d : Draft) (i : ℕ) (R : LaidBefore i d) (known : i < d .plan .count)
       go (inl e) = none-some (sym h ∙ place-whole d i e)
       go (inr e) = ((λ x l free. takes-not d i x own (any-each (d .plan .cores) (takesWhole d i) e x l) free), out .0 (sym (place-shared d i e) ∙ h))
 
+  -- a task that is short of room finds no place
   pub says-none : Short → place d i ≡ none
   says-none s = place-shared d i (any-none (d .plan .cores) (takesWhole d i) (λ x b. not-takes d i x own (s .0 x b))) ∙ out .1 (s .1)

@@ -34,9 +34,11 @@ record Stuck (s : Draft) (n i : ℕ) : Type 0 where
   lays : layFirst s i ≡ laid before
   fails : place before i ≡ none
 
+-- a table is stuck at one task
 stuck-is : {i k : ℕ} → stuck i ≡ stuck k → i ≡ k
 stuck-is e = cc
 
+-- a layout that is stuck at task i found no place for it after the tasks before it
 lay-fails : (s : Draft) (n i : ℕ) → layFirst s n ≡ stuck i → Stuck s n i
 unfolding layFirst
 lay-fails s zero i e = laid-stuck e
@@ -52,6 +54,7 @@ lay-fails s (suc n) i e = go (layFirst s n) refl e (lay-fails s n i)
     go (stuck k) p q ih = let r : Stuck s n i = ih (p ∙ q) in record { below = omega (arith, r .below); before = r .before; lays = r .lays; fails = r .fails }
     go (laid d) p q ih = fails d p _ refl q
 
+-- a task that finds no place stops the layout
 stuck-lay : (s : Draft) (n i : ℕ) → Stuck s n i → layFirst s n ≡ stuck i
 stuck-lay s n i r =
     let e : i + 1 + (n - (i + 1)) ≡ n = omega (arith, r .below) in
@@ -90,6 +93,7 @@ no-place t good i n =
     says-none (n .before) i (lay-ready t good i (omega (arith, n .below)) (n .before) (n .lays)) (known t good i (n .before) (n .below) (n .lays))
     ((λ x l. n .whole x (omega (arith, c))), omega (arith, n .short, same-cost t good i (n .before) (n .below) (n .lays), same-sum t good i (n .before) (n .below) (n .lays)))
 
+-- refusal 7 tells one task
 placed-is : {a b : TaskNo} → NotPlaced a ≡ NotPlaced b → a ≡ b
 placed-is e = cc
 

@@ -28,11 +28,12 @@ pub where-so : (a : Bool) {b c : Bool} → (a ≡ true → b ≡ c) → a && b �
 where-so true h = h refl
 where-so false h = refl
 
--- what passes as a share is one, and what does not is whole
+-- what passes as a share is one
 pub share-is : (k : Kind) → isShare k ≡ true → k ≡ Share
 share-is Whole h = clash h refl
 share-is Share h = refl
 
+-- what does not is whole
 pub whole-is : (k : Kind) → isShare k ≡ false → k ≡ Whole
 whole-is Whole h = refl
 whole-is Share h = clash refl h

@@ -32,10 +32,12 @@ abbrev more : Option ℕ → ℕ → Option ℕ
 more none n = none
 more (some x) n = some (x + n)
 
+-- no tick more
 more-none : (o : Option ℕ) → more o 0 ≡ o
 more-none none = refl
 more-none (some x) = ap some (omega arith)
 
+-- one tick more and then others
 more-more : (o : Option ℕ) (n : ℕ) → more (more o 1) n ≡ more o (1 + n)
 more-more none n = refl
 more-more (some x) n = ap some (omega arith)
@@ -79,18 +81,20 @@ module _ (p : Plan) (c : GoodPlan p) (i : ℕ) (known : i < p .count) where
   pub finish-aged : (o : Option ℕ) (fs : Tasks) (s : State) → Aged o s → Aged o (finish p fs s)
   finish-aged o fs s v = rw (finish-stage p c fs s i known) (finished-old (taskOf p i .period) o (member fs i) (stageOf (jobOf s i)) v)
 
-  -- one accepted tick more, without a release and with one
+  -- one accepted tick more, without a release
   step-aged : (o : Option ℕ) (s : State) (q : Request) → member (q .released) i ≡ false → Aged o s → Aged (more o 1) (stepped p s q)
   step-aged o s q e v =
       let w : Aged o (ready p (q .finished) (q .released) s) = rw (ready-stage p c (q .finished) (q .released) s i known, e) (finished-old (taskOf p i .period) o (member (q .finished) i) (stageOf (jobOf s i)) v) in
       rw (next-stage p c (q .finished) (q .released) s i known) (run-old (modelOf p) i o (runsNow p (ready p (q .finished) (q .released) s) i) (stageOf (jobOf (ready p (q .finished) (q .released) s) i)) w)
 
+  -- the tick of a release is the first
   release-aged : (s : State) (q : Request) → member (q .released) i ≡ true → Aged (some 1) (stepped p s q)
   unfolding model.release
   release-aged s q e =
       let w : Aged (some 0) (ready p (q .finished) (q .released) s) = rw (ready-stage p c (q .finished) (q .released) s i known, e) (omega arith) in
       rw (next-stage p c (q .finished) (q .released) s i known) (run-old (modelOf p) i (some 0) (runsNow p (ready p (q .finished) (q .released) s) i) (stageOf (jobOf (ready p (q .finished) (q .released) s) i)) w)
 
+  -- the same number of ticks
   aged-same : {o o′ : Option ℕ} (s : State) → o ≡ o′ → Aged o s → Aged o′ s
   aged-same s e v = rw (← e) v
 

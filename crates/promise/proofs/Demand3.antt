@@ -24,7 +24,7 @@ use Rattle.promise.proofs.Cores.{one-core, cores-rise}
 use Rattle.promise.proofs.LeftOut.{left-out}
 use Rattle.promise.proofs.Runs.{after-append, due-over, none-late}
 use Rattle.promise.proofs.Sound.{piece-fits, within-cost}
-use Rattle.promise.proofs.TooSoon.{soon-refused, soon-named}
+use Rattle.promise.proofs.TooSoon.{soon-refused, soon-named, soon-only}
 
 module _ (p : Plan) (good : checkedPlan p ≡ Accepted) where
   checked : GoodPlan p
@@ -41,6 +41,7 @@ module _ (p : Plan) (good : checkedPlan p ≡ Accepted) where
     rises = cores-rise p;
     soon = soon-refused p checked;
     eleven = soon-named p checked;
+    only = soon-only p checked;
     uncounted = left-out p;
   }
 

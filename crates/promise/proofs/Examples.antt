@@ -121,15 +121,17 @@ releasing ts = record { finished = tasksOf []; released = tasksOf ts }
 row : ℕ → ℕ → ℕ → List Runner
 row a b c = Runs (taskNo a) ∷ Runs (taskNo b) ∷ Runs (taskNo c) ∷ []
 
--- P6's board for ten ticks: tasks 0 to 3 are released in the first of them, task 4 in the fifth
+-- P6's board for ten ticks: tasks 0 to 3 are released in the first of them
 opening : Request
 unfolding releasing
 opening = releasing (0 ∷ 1 ∷ 2 ∷ 3 ∷ [])
 
-upToFour : List Request
+-- the first four of them
+firstFour : List Request
 unfolding opening releasing
-upToFour = opening ∷ replicate 3 (releasing [])
+firstFour = opening ∷ replicate 3 (releasing [])
 
+-- all but the first of them; task 4 is released in the fifth
 rest : List Request
 unfolding releasing
 rest = replicate 3 (releasing []) ++ releasing (4 ∷ []) ∷ replicate 5 (releasing [])
@@ -140,41 +142,43 @@ unfolding sixPlan task piece rows tasksOf releasing opening rest row tick nextSt
 held-back = refl
 
 -- ten ticks are task 3's deadline
-third-due : Due sixPlan [] opening rest 3
+three-due : Due sixPlan [] opening rest 3
 unfolding sixPlan task piece tasksOf releasing opening rest tally after tick nextState checked judged judgedSets lowest wellMade coreWellMade jobWellMade finish markLate release run age countPreempted preempted eachJob highest firstPiece member padded tabulate count checkedPlan checkedTasks shape pieceFits inOrder follows isLast costs above all any first sum
-third-due = record { task = omega arith; accepted = refl; released = refl; over = refl }
+three-due = record { task = omega arith; accepted = refl; released = refl; over = refl }
 
 -- so its job has ended, having been named in as many ticks as it costs, or having been finished
-third-ended : (jobOf (reached sixPlan (opening ∷ rest)) 3 .phase ≡ Ended)
+three-ended : (jobOf (reached sixPlan (opening ∷ rest)) 3 .phase ≡ Ended)
     × ((timesNamed 3 sixPlan (reached sixPlan []) (opening ∷ rest) ≡ taskOf sixPlan 3 .cost) ⊎ ((timesNamed 3 sixPlan (reached sixPlan []) (opening ∷ rest) < taskOf sixPlan 3 .cost) × (1 ≤ finishes 3 sixPlan (reached sixPlan (opening ∷ [])) rest)))
-third-ended = (kept .0 .ends [] opening rest 3 third-due, kept .0 .shown [] opening rest 3 third-due)
+three-ended = (kept .0 .ends [] opening rest 3 three-due, kept .0 .shown [] opening rest 3 three-due)
 
--- then a release of task 4 comes in the seventh tick since its last one, its period being ten
-fourth-soon : AsksSoon sixPlan (opening ∷ rest) (releasing (4 ∷ [])) 4
-unfolding sixPlan task piece tasksOf releasing opening upToFour rest tally after tick nextState checked judged judgedSets lowest wellMade coreWellMade jobWellMade finish markLate release run age countPreempted preempted eachJob highest firstPiece member padded tabulate count checkedPlan checkedTasks shape pieceFits inOrder follows isLast costs above all any first sum
-fourth-soon = record {
+-- after them six ticks have been accepted since task 4's release, that one counted, and its period is ten: a release of it now comes too soon
+four-soon : AsksSoon sixPlan (opening ∷ rest) (releasing (4 ∷ [])) 4
+unfolding sixPlan task piece tasksOf releasing opening firstFour rest tally after tick nextState checked judged judgedSets lowest wellMade coreWellMade jobWellMade finish markLate release run age countPreempted preempted eachJob highest firstPiece member padded tabulate count checkedPlan checkedTasks shape pieceFits inOrder follows isLast costs above all any first sum
+four-soon = record {
   task = omega arith;
   released = refl;
-  since = record { before = upToFour; last = releasing (4 ∷ []); later = replicate 5 (releasing []); all = refl; accepted = refl; released = refl; none = refl };
+  since = record { before = firstFour; last = releasing (4 ∷ []); later = replicate 5 (releasing []); all = refl; accepted = refl; released = refl; none = refl };
   few = omega arith;
 }
 
--- no other task is released, and none is finished
-only-fourth : (k : ℕ) → member (releasing (4 ∷ []) .released) k ≡ true → 4 ≡ k
+-- no other task is released
+only-four : (k : ℕ) → member (releasing (4 ∷ []) .released) k ≡ true → 4 ≡ k
 unfolding releasing tasksOf member any
-only-fourth k h = eqb-true 4 k h
+only-four k h = eqb-true 4 k h
 
+-- no task is finished
 none-finished : (k : ℕ) → member (releasing (4 ∷ []) .finished) k ≡ true → ⊥
 unfolding releasing tasksOf member any
 none-finished k h = clash h refl
 
--- so it is refused with 11, which tells task 4, and whatever comes later is as if it had not been asked for
-fourth-refused : Refuses (asked sixPlan (reached sixPlan (opening ∷ rest)) (releasing (4 ∷ [])) .answer) 11 (told.task 4)
-fourth-refused = go (kept .0 .eleven (opening ∷ rest) (releasing (4 ∷ [])) 4 fourth-soon (λ k l a. omega (arith, only-fourth k (a .released))))
+-- so it is refused with 11, which tells task 4
+four-refused : Refuses (asked sixPlan (reached sixPlan (opening ∷ rest)) (releasing (4 ∷ [])) .answer) 11 (told.task 4)
+four-refused = go (kept .0 .eleven (opening ∷ rest) (releasing (4 ∷ [])) 4 four-soon (λ k l a. omega (arith, only-four k (a .released))))
   where
     go : Refuses (asked sixPlan (reached sixPlan (opening ∷ rest)) (releasing (4 ∷ [])) .answer) 11 (told.task 4) ⊎ FinishRefused sixPlan (reached sixPlan (opening ∷ rest)) (releasing (4 ∷ [])) → Refuses (asked sixPlan (reached sixPlan (opening ∷ rest)) (releasing (4 ∷ [])) .answer) 11 (told.task 4)
     go (inl r) = r
     go (inr f) = absurd (none-finished (f .named) (f .finished))
 
-fourth-uncounted : (later : List Request) → ChangesNothing sixPlan (opening ∷ rest) (releasing (4 ∷ [])) later
-fourth-uncounted later = kept .0 .uncounted (opening ∷ rest) (releasing (4 ∷ [])) later (kept .0 .soon (opening ∷ rest) (releasing (4 ∷ [])) 4 fourth-soon)
+-- and whatever comes later is as if it had not been asked for
+four-uncounted : (later : List Request) → ChangesNothing sixPlan (opening ∷ rest) (releasing (4 ∷ [])) later
+four-uncounted later = kept .0 .uncounted (opening ∷ rest) (releasing (4 ∷ [])) later (kept .0 .soon (opening ∷ rest) (releasing (4 ∷ [])) 4 four-soon)

@@ -28,6 +28,7 @@ tally-skip : (f : Request → Ticked → Bool) (p : Plan) (s : State) (q : Reque
 unfolding tally
 tally-skip f p s q b = by-answer p s q (λ t. isAccepted (t .answer) ≡ false → cond (isAccepted (t .answer) && f q t) 1 0 + tally f p (t .state) b ≡ tally f p s b) (λ ok h. clash refl h) (λ r h. omega arith)
 
+-- nothing changes where a refused request is left out
 pub left-out : (p : Plan) (before : List Request) (q : Request) (later : List Request) → accepts p (reached p before) q ≡ false → ChangesNothing p before q later
 unfolding after
 left-out p before q later refused = record {

@@ -51,7 +51,9 @@ pub record Demand3 (p : Plan) : Type 0 where
   -- with 11, which tells the lowest such task, unless 10 comes before it
   pub eleven : (qs : List Request) (q : Request) (i : ℕ) → AsksSoon p qs q i → ((k : ℕ) → k < i → AsksSoon p qs q k → ⊥) →
       Refuses (asked p (reached p qs) q .answer) 11 (task i) ⊎ FinishRefused p (reached p qs) q
-  -- and a refused request does not count
+  -- and 11 tells a task of the plan only if it is released too soon
+  pub only : (qs : List Request) (q : Request) (i : ℕ) → i < p .count → Refuses (asked p (reached p qs) q .answer) 11 (task i) → AsksSoon p qs q i
+  -- a refused request does not count
   pub uncounted : (before : List Request) (q : Request) (later : List Request) → accepts p (reached p before) q ≡ false → ChangesNothing p before q later
 
 -- a plan of the table's tasks on the table's cores

@@ -8,5 +8,6 @@ use Rattle.tasks.specs.declared.Refusal.{Refusal}
 pub accepted-not : {A : Type 0} {r : Refusal} → Refused r ≡ Accepted → A
 accepted-not e = let z : _≡_ {A = ℕ} 0 1 = cc in absurd (omega arith)
 
+-- two refusals that are one answer are the same
 pub refused-is : {r s : Refusal} → Refused r ≡ Refused s → r ≡ s
 refused-is e = cc
