@@ -14,7 +14,8 @@ use Rattle.tasks.proofs.Bools.{both, clash, or-false}
 use Rattle.tasks.specs.Places.{further}
 use Rattle.tasks.specs.Tables.{coresFit, valuesFit}
 use Rattle.plans.specs.declared.Plan.{Plan}
-use Rattle.files.specs.Fields.{number2, tag, lengthFor, tagFits, taskIn, pieceIn, values, verdict, hold, fieldAt, pieceTaken, nextField, withCores, withTask, withPiece, added, refusedField, settled, step, read}
+use Rattle.files.specs.Grammar.{number2, lengthFor, valuesFault}
+use Rattle.files.specs.Fields.{tag, tagFits, taskIn, pieceIn, values, verdict, hold, fieldAt, pieceTaken, nextField, withCores, withTask, withPiece, added, refusedField, settled, step, read}
 use Rattle.files.specs.declared.Field.{Field}
 use Rattle.files.specs.declared.Reader.{Reader}
 
@@ -22,6 +23,15 @@ abbrev pub reader : Field → Plan → Reader
 reader f p = record { field = f; plan = p }
 
 -- ---- what a field is found to be
+
+-- no body is longer than a task's
+pub length-most : (g : ℕ) → lengthFor g ≤ 12
+length-most g = go (eqb g 1) (eqb g 2)
+  where
+    go : (a b : Bool) → cond a 1 (cond b 12 7) ≤ 12
+    go true b = omega arith
+    go false true = omega arith
+    go false false = omega arith
 
 -- a test for each of three tags
 by-tag : (t : ℕ) (x y z : Bool) → (eqb t 1 && x || eqb t 2 && y) || eqb t 3 && z ≡ cond (eqb t 1) x (cond (eqb t 2) y (cond (eqb t 3) z false))
@@ -50,21 +60,21 @@ no-bad false false c d x y h k = refl
 
 module _ (f : Field) where
   pub cores-bad : eqb (tag f) 1 && not (coresFit (getD (f .bytes) 3 0)) ≡ true → 4 ≡ values f
-  unfolding values
+  unfolding valuesFault
   cores-bad h =
       let k : (eqb (tag f) 1 ≡ true) × (not (coresFit (getD (f .bytes) 3 0)) ≡ true) = both h in
       rw (k .0, not-true (coresFit (getD (f .bytes) 3 0)) (k .1))
 
   module _ (fits : Bool) (e : fits ≡ valuesFit (taskIn f)) where
     pub task-bad : eqb (tag f) 2 && not fits ≡ true → 5 ≡ values f
-    unfolding values
+    unfolding valuesFault
     task-bad h =
         let k : (eqb (tag f) 2 ≡ true) × (not fits ≡ true) = both h in
         let t : tag f ≡ 2 = eqb-true (tag f) 2 (k .0) in
         rw (ne-eqb (tag f) 1 (λ q. omega arith), k .0, ← e, not-true fits (k .1))
 
     pub values-pass : eqb (tag f) 1 && not (coresFit (getD (f .bytes) 3 0)) ≡ false → eqb (tag f) 2 && not fits ≡ false → 0 ≡ values f
-    unfolding values
+    unfolding valuesFault
     values-pass h k = rw (← e) (no-bad (eqb (tag f) 1) (eqb (tag f) 2) (coresFit (getD (f .bytes) 3 0)) fits 4 5 h k)
 
 -- a field, test after test
@@ -152,6 +162,12 @@ read-refused f p (b ∷ s) e = ap (λ (r : Reader). read r s) (step-refused f p 
 pub step-good : (f : Field) (p : Plan) (b : ℕ) → f .bad ≡ 0 → step (reader f p) b ≡ settled (verdict (hold f b) (p .count)) (hold f b) p
 unfolding step
 step-good f p b e = rw (eq-eqb (f .bad) 0 e)
+
+-- a byte more, where there is room for it
+pub hold-is : (f : Field) (b : ℕ) → f .count < 15
+    → hold f b ≡ record { pieces = f .pieces; bad = f .bad; place = f .place; end = f .end; misshapen = f .misshapen; count = f .count + 1; bytes = set (f .bytes) (f .count) b }
+unfolding hold
+hold-is f b h = rw (lt-ltb (f .count) 15 h)
 
 -- a byte more is held of the same file
 pub hold-bad : (f : Field) (b : ℕ) → hold f b .bad ≡ f .bad

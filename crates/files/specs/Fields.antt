@@ -1,37 +1,23 @@
--- Fields: a file is fields in a row: tag (one byte), length (two bytes), body. All numbers are high byte first.
--- The bytes of a file are taken one after another, each field is judged as its bytes come in, and the first bad field decides.
+-- Fields as a reader takes them: byte after byte, each field judged as its bytes come in, and the first bad field decides.
 -- A file that comes in parts is read as the whole is: `read` goes on from any reader.
 use mathlib.Core.Bool.{Bool, true, false, not, _&&_, cond}
 use mathlib.Core.List.{List, [], _∷_}
-use Prim.Native.Nat.{ℕ, _+_, _*_}
+use Prim.Native.Nat.{ℕ, _+_}
 use lib.Dec.{leb, ltb, eqb}
 use lib.ListN.{getD, set, replicate}
 use Rattle.tasks.specs.Places.{further}
-use Rattle.tasks.specs.Tables.{taskNo, coreNo, coresFit, valuesFit}
 use Rattle.tasks.specs.declared.Task.{Task}
-use Rattle.plans.specs.declared.Kind.{Kind}
-use Rattle.plans.specs.declared.Kind.the-variants.{Whole, Share}
 use Rattle.plans.specs.declared.Piece.{Piece}
 use Rattle.plans.specs.declared.Plan.{Plan}
+use Rattle.files.specs.Grammar.{number2, tagOf, lengthFor, taskOfField, pieceOfField, valuesFault}
 use Rattle.files.specs.declared.Field.{Field}
 use Rattle.files.specs.declared.Reader.{Reader}
-
--- the number of two bytes from i on, and of four
-abbrev pub number2 : List ℕ → ℕ → ℕ
-number2 s i = getD s i 0 * 256 + getD s (i + 1) 0
-
-abbrev pub number4 : List ℕ → ℕ → ℕ
-number4 s i = number2 s i * 65536 + number2 s (i + 2)
 
 -- ---- the field being read
 
 -- the first byte
 abbrev pub tag : Field → ℕ
-tag f = getD (f .bytes) 0 0
-
--- the length that belongs to a tag
-abbrev pub lengthFor : ℕ → ℕ
-lengthFor g = cond (eqb g 1) 1 (cond (eqb g 2) 12 7)
+tag f = tagOf (f .bytes)
 
 -- a core count only as the first field; a task only before any piece; a piece only in plan files
 unfoldable pub tagFits : Field → Bool
@@ -42,23 +28,17 @@ tagFits f =
 
 -- the task of a field with tag 2
 abbrev pub taskIn : Field → Task
-taskIn f = record { cost = number4 (f .bytes) 3; deadline = number4 (f .bytes) 7; period = number4 (f .bytes) 11 }
-
--- kind: 0 whole, 1 share
-abbrev pub kindOf : ℕ → Kind
-kindOf b = cond (eqb b 1) Share Whole
+taskIn f = taskOfField (f .bytes)
 
 -- the piece of a field with tag 3
 abbrev pub pieceIn : Field → Piece
-pieceIn f = record { task = taskNo (getD (f .bytes) 3 0); core = coreNo (getD (f .bytes) 4 0); kind = kindOf (getD (f .bytes) 5 0); cost = number4 (f .bytes) 6 }
+pieceIn f = pieceOfField (f .bytes)
 
 -- what a field is refused with is told by the refusal's number; 0 says that the field is good
 
 -- values: 4 or 5
-unfoldable pub values : Field → ℕ
-values f =
-    cond (eqb (tag f) 1) (cond (coresFit (getD (f .bytes) 3 0)) 0 4)
-    (cond (eqb (tag f) 2) (cond (valuesFit (taskIn f)) 0 5) 0)
+abbrev pub values : Field → ℕ
+values f = valuesFault (f .bytes)
 
 -- within a field, n tasks having been read: header whole (1), tag (2), 65th task (6), length (3), body whole (1), values
 unfoldable pub verdict : Field → ℕ → ℕ

@@ -1,3 +1,5 @@
+pub mod Grammar
+pub mod Rules
 pub mod Fields
 pub mod Reading
 pub mod Files

@@ -2,16 +2,13 @@
 use mathlib.Core.Bool.{Bool, false, not, cond}
 use Prim.Native.Nat.{ℕ}
 use lib.Dec.{ltb, eqb}
-use lib.ListN.{replicate}
-use Rattle.tasks.specs.Tables.{noTask, andThen}
+use Rattle.tasks.specs.Tables.{andThen}
 use Rattle.tasks.specs.declared.Answer.{Answer}
 use Rattle.tasks.specs.declared.Answer.the-variants.{Accepted, Refused}
-use Rattle.tasks.specs.Places.{placeAt}
-use Rattle.tasks.specs.declared.Refusal.{Refusal}
-use Rattle.tasks.specs.declared.Refusal.the-variants.{CutShort, WrongTag, WrongLength, CoresAt, ValuesAt, TasksAt, NoPlanShape}
-use Rattle.plans.specs.Pieces.{noPiece}
+use Rattle.tasks.specs.declared.Refusal.the-variants.{NoPlanShape}
 use Rattle.plans.specs.Shape.{checkedPlan}
 use Rattle.plans.specs.declared.Plan.{Plan}
+use Rattle.files.specs.Grammar.{defaultCores, refusal, emptyPlan, tableAnswered, planAnswered}
 use Rattle.files.specs.Fields.{fieldAt, refusedField}
 use Rattle.files.specs.declared.Field.{Field}
 use Rattle.files.specs.declared.Reader.{Reader}
@@ -20,28 +17,11 @@ use Rattle.files.specs.declared.ReadTable.{ReadTable}
 
 -- ---- the start
 
--- if the core count is absent it is 4
-abbrev pub defaultCores : ℕ
-defaultCores = 4
-
--- all zeros, but for the core count
-abbrev pub emptyPlan : ℕ → Plan
-emptyPlan m = record { cores = m; count = 0; tasks = replicate 64 noTask; placed = 0; pieces = replicate 128 noPiece }
-
 -- a table's reader (false) or a plan's (true), with nothing read
 abbrev pub begun : Bool → Reader
 begun o = record { field = fieldAt o 0 0 false; plan = emptyPlan defaultCores }
 
 -- ---- the end
-
--- the refusal of this number, which tells this place
-unfoldable pub refusal : ℕ → ℕ → Refusal
-refusal x at =
-    cond (eqb x 1) (CutShort (placeAt at))
-    (cond (eqb x 2) (WrongTag (placeAt at))
-    (cond (eqb x 3) (WrongLength (placeAt at))
-    (cond (eqb x 4) (CoresAt (placeAt at))
-    (cond (eqb x 5) (ValuesAt (placeAt at)) (TasksAt (placeAt at))))))
 
 -- the field, moved to this place
 abbrev pub movedTo : Field → ℕ → Field
@@ -64,15 +44,6 @@ endedAfter f n = fieldsAnswer (ended f n)
 -- 8 comes last: what was read is judged as a record, and of good fields only the shape is left to refuse
 unfoldable pub planEnded : Field → Plan → Answer
 planEnded f p = andThen (endedAfter f (p .count)) (cond (f .misshapen) (Refused NoPlanShape) (checkedPlan p))
-
--- on a refusal the record is all zeros
-abbrev pub tableAnswered : Answer → Plan → ReadTable
-tableAnswered Accepted p = record { answer = Accepted; table = record { cores = p .cores; count = p .count; tasks = p .tasks } }
-tableAnswered (Refused x) p = record { answer = Refused x; table = record { cores = 0; count = 0; tasks = replicate 64 noTask } }
-
-abbrev pub planAnswered : Answer → Plan → ReadPlan
-planAnswered Accepted p = record { answer = Accepted; plan = p }
-planAnswered (Refused x) p = record { answer = Refused x; plan = emptyPlan 0 }
 
 -- the answer for a table file that ends here, and for a plan file
 unfoldable pub tableClosed : Reader → ReadTable

@@ -8,7 +8,7 @@ use native.Mathlib.Decide.{ℕ-discrete, decLt}
 use native.Mathlib.Numerals.{add-one}
 use native.Mathlib.Omega.{arith}
 use lib.Dec.{eqb}
-use lib.ListN.{length, getD, set, take, replicate, length-append, length-set, length-replicate, getD-replicate, List·getD-eq-default}
+use lib.ListN.{length, getD, set, take, replicate, length-append, length-set}
 use lib.Seq.{length-take-le, take-suc-set, getD-set-same, getD-set-other}
 use borrow.Author.Tests.{eq-eqb}
 use Rattle.tasks.specs.Below.{row}
@@ -21,12 +21,14 @@ use Rattle.plans.specs.declared.Plan.{Plan}
 use Rattle.writing.specs.Fields.{coreField, taskField, pieceField}
 use Rattle.tasks.specs.Places.{further}
 use Rattle.tasks.proofs.Places.{further-is}
-use Rattle.files.specs.Fields.{tag, lengthFor, taskIn, pieceIn, verdict, hold, fieldAt, pieceTaken, nextField, withCores, withTask, withPiece, added, settled, step, read}
+use Rattle.files.specs.Grammar.{lengthFor}
+use Rattle.files.specs.Fields.{tag, taskIn, pieceIn, verdict, hold, fieldAt, pieceTaken, nextField, withCores, withTask, withPiece, added, settled, step, read}
 use Rattle.files.specs.declared.Field.{Field}
 use Rattle.files.specs.declared.Reader.{Reader}
-use Rattle.files.proofs.Fields.{reader, next-other, cores-added, task-added, read-refused, step-good, settled-bad, good-room}
-use Rattle.trips.proofs.Taken.{piece-room, piece-kind, Found, good-found, waits-short, tag-cases, cores-good, values-good, core-text, task-text, piece-text}
-use Rattle.trips.proofs.ReadBack.{hold-is, length-most}
+use Rattle.files.proofs.Fields.{reader, length-most, next-other, cores-added, task-added, read-refused, hold-is, step-good, settled-bad, good-room}
+use Rattle.files.proofs.Filled.{no-length, cleared}
+use Rattle.files.proofs.Found.{Found, good-found, tag-cases, cores-good, values-good}
+use Rattle.trips.proofs.Taken.{piece-room, piece-kind, waits-short, core-text, task-text, piece-text}
 
 -- the fields of what was read: the core count if it was named, the tasks, the pieces
 unfoldable pub told : Bool → Plan → List ℕ
@@ -104,10 +106,6 @@ nil-right : (xs ys : List ℕ) → xs ++ ys ≡ [] → ys ≡ []
 nil-right [] ys h = h
 nil-right (x ∷ xs) ys h = let z : _≡_ {A = ℕ} 0 1 = cc in absurd (omega arith)
 
-no-length : (xs : List ℕ) → length xs ≡ 0 → xs ≡ []
-no-length [] h = refl
-no-length (x ∷ xs) h = absurd (omega arith)
-
 told-cores : (named : Bool) (p : Plan) (m : ℕ) → told named p ≡ [] → told true (withCores p m) ≡ coreField m
 unfolding told
 told-cores named p m h = rw (nil-right (cond named (coreField (p .cores)) []) _ h) (append-nil (coreField m))
@@ -119,14 +117,6 @@ told-task named p t e h = rw (row-set taskField (p .tasks) (p .count) t noTask h
 told-piece : (named : Bool) (p : Plan) (z : Piece) → p .placed < length (p .pieces) → told named (withPiece p z) ≡ told named p ++ pieceField z
 unfolding told
 told-piece named p z h = rw (row-set pieceField (p .pieces) (p .placed) z noPiece h) (simp append-assoc)
-
--- a list of one entry has it everywhere
-pub cleared : {A : Type 0} (n : ℕ) (d : A) (i : ℕ) → getD (replicate n d) i d ≡ d
-cleared n d i = go (decLt i n)
-  where
-    go : Dec (i < n) → getD (replicate n d) i d ≡ d
-    go (yes l) = getD-replicate n i d d l
-    go (no l) = List·getD-eq-default (replicate n d) d {n = i} (omega (arith, length-replicate n d))
 
 pub zero-byte : (i : ℕ) → getD (replicate 15 0) i 0 < 256
 zero-byte i = rw (cleared {A = ℕ} 15 0 i) (omega arith)
@@ -150,7 +140,7 @@ module _ (o : Bool) (s : List ℕ) (g : Field) (p : Plan) (h : Held o s g p) (d 
           let empty : told (h .named) p ≡ [] = no-length _ (omega (arith, h .whole, h .size, ap length (c .text), length-append (told (h .named) p) (take (g .count) (g .bytes)), length-take-le (g .count) (g .bytes) (omega (arith, h .size)))) in
           record {
             text = c .text ∙ rw (empty, field) (sym (append-nil _ ∙ told-cores (h .named) p (getD (g .bytes) 3 0) empty));
-            cores = cores-good g t (d .values);
+            cores = cores-good (g .bytes) t (d .values);
             default = λ q. clash refl q;
             count = c .count;
             values = c .values;
@@ -185,7 +175,7 @@ module _ (o : Bool) (s : List ℕ) (g : Field) (p : Plan) (h : Held o s g p) (d 
           }
         where
           value : Content o (h .named) s g p → (i : ℕ) → i < p .count + 1 → Dec (i ≡ p .count) → valuesFit (taskOf (withTask p (taskIn g)) i) ≡ true
-          value c i l (yes q) = rw (q, getD-set-same (p .tasks) (p .count) (taskIn g) noTask (omega (arith, c .tasks))) (values-good g t (d .values))
+          value c i l (yes q) = rw (q, getD-set-same (p .tasks) (p .count) (taskIn g) noTask (omega (arith, c .tasks))) (values-good (g .bytes) t (d .values))
           value c i l (no q) = rw (getD-set-other (p .tasks) (p .count) i (taskIn g) noTask q) (c .values i (omega arith))
 
   taken-piece : tag g ≡ 3 → g .pieces ≡ true → pieceTaken g (p .placed) ≡ true → Held o s (fieldAt (g .pieces) (length s) (g .end) (g .misshapen)) (withPiece p (pieceIn g))

@@ -6,13 +6,14 @@ use lib.ListN.{replicate}
 use Rattle.tasks.specs.Below.{row}
 use Rattle.tasks.specs.Tables.{noTask}
 use Rattle.tasks.specs.declared.Answer.the-variants.{Accepted, Refused}
-use Rattle.tasks.specs.declared.Refusal.the-variants.{CutShort, WrongTag, WrongLength, CoresAt, ValuesAt, TasksAt}
+use Rattle.tasks.specs.declared.Refusal.the-variants.{CutShort, WrongTag, WrongLength, CoresAt, ValuesAt, TasksAt, NoPlanShape}
 use Rattle.tasks.specs.declared.Table.{Table}
 use Rattle.writing.specs.Fields.{tableBytes, tasksBytes, coreField, taskField}
 use Rattle.tasks.specs.Places.{placeAt, further}
-use Rattle.files.specs.Fields.{read, step, verdict, hold, tagFits, values, nextField, added}
-use Rattle.files.specs.Reading.{refusal, ended, tableClosed}
-use Rattle.files.specs.Files.{tableRead}
+use Rattle.files.specs.Grammar.{refusal, valuesFault}
+use Rattle.files.specs.Fields.{read, step, verdict, hold, tagFits, pieceTaken, nextField, added}
+use Rattle.files.specs.Reading.{ended, tableClosed, planEnded, planClosed}
+use Rattle.files.specs.Files.{tableRead, planRead}
 
 abbrev example : List ℕ
 example = 1 ∷ 0 ∷ 1 ∷ 2 ∷ 2 ∷ 0 ∷ 12 ∷ 0 ∷ 0 ∷ 0 ∷ 6 ∷ 0 ∷ 0 ∷ 0 ∷ 10 ∷ 0 ∷ 0 ∷ 0 ∷ 10 ∷ []
@@ -24,6 +25,10 @@ table = record { cores = 2; count = 1; tasks = record { cost = 6; deadline = 10;
 abbrev tasks : ℕ → ℕ → List ℕ
 tasks n p = row n (λ i. taskField (record { cost = 1; deadline = 1; period = p }))
 
+-- task 0's piece of this kind on core 0
+abbrev piece : ℕ → List ℕ
+piece k = 3 ∷ 0 ∷ 7 ∷ 0 ∷ 0 ∷ k ∷ 0 ∷ 0 ∷ 0 ∷ 1 ∷ []
+
 pub record SmallFiles : Type 0 where
   pub written : tableBytes table ≡ example
   pub read-back : tableRead example ≡ record { answer = Accepted; table = table }
@@ -34,8 +39,12 @@ pub record SmallFiles : Type 0 where
   pub many-cores : tableRead (1 ∷ 0 ∷ 1 ∷ 17 ∷ 7 ∷ []) .answer ≡ Refused (CoresAt (placeAt 0))
   pub most-tasks : tableRead (tasks 64 1000000) .answer ≡ Accepted
   pub many-tasks : tableRead (tasks 65 1000000) .answer ≡ Refused (TasksAt (placeAt 960))
+  pub table-piece : tableRead (example ++ piece 0) .answer ≡ Refused (WrongTag (placeAt 19))
+  pub only-piece : planRead (piece 0) .answer ≡ Refused (TasksAt (placeAt 0))
+  pub late-task : planRead (tasks 1 9 ++ (piece 0 ++ tasks 1 9)) .answer ≡ Refused (WrongTag (placeAt 25))
+  pub bad-kind : planRead (tasks 1 9 ++ piece 2) .answer ≡ Refused NoPlanShape
   pub long-period : tableRead (tasks 1 1000001) .answer ≡ Refused (ValuesAt (placeAt 0))
 
 pub small-files : SmallFiles
-unfolding tableBytes tasksBytes coreField taskField row tableRead tableClosed read step verdict hold tagFits values nextField added further ended refusal
-small-files = record { written = refl; read-back = refl; no-task = refl; short-tail = refl; second-count = refl; wrong-length = refl; many-cores = refl; most-tasks = refl; many-tasks = refl; long-period = refl }
+unfolding tableBytes tasksBytes coreField taskField row tableRead tableClosed planRead planClosed planEnded read step verdict hold tagFits valuesFault pieceTaken nextField added further ended refusal
+small-files = record { written = refl; read-back = refl; no-task = refl; short-tail = refl; second-count = refl; wrong-length = refl; many-cores = refl; most-tasks = refl; many-tasks = refl; table-piece = refl; only-piece = refl; late-task = refl; bad-kind = refl; long-period = refl }

@@ -1,6 +1,6 @@
 -- What an accepted file is: it is written again byte for byte, its record is good, and its task fields are the part that the table in force gives.
 use mathlib.Core.Path.{_≡_, refl, sym, ap, _∙_}
-use mathlib.Core.Bool.{Bool, true, false, not, _&&_, cond}
+use mathlib.Core.Bool.{Bool, true, false, cond}
 use mathlib.Core.List.{List, [], _∷_, _++_, append-assoc, append-nil}
 use Prim.Native.Nat.{ℕ, zero, suc, _+_, _≤_, _<_}
 use native.Mathlib.Decide.{ℕ-discrete}
@@ -12,22 +12,25 @@ use borrow.Author.Tests.{ltb-false, eqb-false, eq-eqb, ne-eqb, le-leb}
 use Rattle.tasks.specs.Below.{row}
 use Rattle.tasks.proofs.Bools.{both-make}
 use Rattle.tasks.proofs.Tables.{all-good}
-use Rattle.tasks.specs.Refusals.{number}
-use Rattle.tasks.specs.Tables.{noTask, checkedTable, checkedTasks, andThen}
+use Rattle.tasks.specs.Tables.{noTask, checkedTable, checkedTasks}
 use Rattle.tasks.specs.declared.Answer.{Answer}
 use Rattle.tasks.specs.declared.Answer.the-variants.{Accepted, Refused}
 use Rattle.tasks.specs.declared.Refusal.the-variants.{NoPlanShape}
 use Rattle.tasks.specs.declared.Table.{Table}
 use Rattle.tasks.proofs.Answers.{accepted-not}
-use Rattle.plans.specs.Pieces.{noPiece, taskOf, pieceOf}
-use Rattle.plans.specs.Shape.{checkedPlan, shape}
+use Rattle.plans.specs.Pieces.{noPiece, taskOf}
+use Rattle.plans.specs.Shape.{checkedPlan}
 use Rattle.plans.specs.declared.Plan.{Plan}
 use Rattle.writing.specs.Fields.{coreField, taskField, tasksBytes, tableBytes, planBytes}
 use Rattle.files.specs.Fields.{fieldAt, refusedField, read}
-use Rattle.files.specs.Reading.{defaultCores, begun, emptyPlan, refusal, movedTo, ended, fieldsAnswer, endedAfter, planEnded, tableAnswered, planAnswered, tableClosed, planClosed}
+use Rattle.files.specs.Grammar.{defaultCores, emptyPlan, refusal}
+use Rattle.files.specs.Reading.{begun, movedTo, ended, fieldsAnswer, endedAfter, planEnded, tableClosed, planClosed}
 use Rattle.files.specs.Files.{tableRead, planRead}
 use Rattle.files.specs.declared.Field.{Field}
-use Rattle.trips.proofs.Accepted.{told, Content, Held, read-held, cleared, zero-byte}
+use Rattle.files.proofs.Filled.{cleared}
+use Rattle.files.proofs.FirstBad.{positive}
+use Rattle.files.proofs.FileAnswers.{table-has, plan-has}
+use Rattle.trips.proofs.Accepted.{told, Content, Held, read-held, zero-byte}
 
 -- a lent slice: each byte is below 256, and the length fits a machine word
 pub record Slice (s : List ℕ) : Type 0 where
@@ -65,22 +68,6 @@ pub record Ended (f : Field) (n : ℕ) : Type 0 where
   pub bad : f .bad ≡ 0
   pub count : f .count ≡ 0
   pub some : 1 ≤ n
-
--- the number that is kept of a bad field is its refusal's in document 01's table
-pub refusal-number : (x at : ℕ) → 1 ≤ x → x ≤ 6 → number (refusal x at) ≡ x
-unfolding refusal
-refusal-number zero at l h = absurd (omega arith)
-refusal-number (suc zero) at l h = refl
-refusal-number (suc (suc zero)) at l h = refl
-refusal-number (suc (suc (suc zero))) at l h = refl
-refusal-number (suc (suc (suc (suc zero)))) at l h = refl
-refusal-number (suc (suc (suc (suc (suc zero))))) at l h = refl
-refusal-number (suc (suc (suc (suc (suc (suc zero)))))) at l h = refl
-refusal-number (suc (suc (suc (suc (suc (suc (suc x))))))) at l h = absurd (omega arith)
-
-positive : (n : ℕ) → (n ≡ 0 → ⊥) → 1 ≤ n
-positive zero h = absurd (h refl)
-positive (suc n) h = omega arith
 
 ended-says : (f : Field) (n : ℕ) → endedAfter f n ≡ Accepted → Ended f n
 unfolding ended
@@ -164,14 +151,6 @@ module _ (o : Bool) (s : List ℕ) (lent : Slice s) (e : Ended (read (begun o) s
     good : checkedTasks (read (begun o) s .plan .cores) (read (begun o) s .plan .count) (taskOf (read (begun o) s .plan)) ≡ Accepted
     good = all-good _ _ _ (content .cores) (both-make (le-leb 1 _ (e .some)) (le-leb _ 64 (content .count))) (content .values)
 
-answer-is : (a : Answer) (p : Plan) → tableAnswered a p .answer ≡ a
-answer-is Accepted p = refl
-answer-is (Refused x) p = refl
-
-plan-answer-is : (a : Answer) (p : Plan) → planAnswered a p .answer ≡ a
-plan-answer-is Accepted p = refl
-plan-answer-is (Refused x) p = refl
-
 plan-ended-says : (f : Field) (p : Plan) → planEnded f p ≡ Accepted → Ended f (p .count) × ((f .misshapen ≡ false) × (checkedPlan p ≡ Accepted))
 unfolding planEnded
 plan-ended-says f p h = fields _ refl
@@ -188,7 +167,7 @@ plan-ended-says f p h = fields _ refl
 module _ (s : List ℕ) (lent : Slice s) (accepted : tableRead s .answer ≡ Accepted) where
   table-ended : endedAfter (read (begun false) s .field) (read (begun false) s .plan .count) ≡ Accepted
   unfolding tableRead tableClosed
-  table-ended = sym (answer-is _ (read (begun false) s .plan)) ∙ accepted
+  table-ended = sym (table-has _ (read (begun false) s .plan)) ∙ accepted
 
   table-plain : read (begun false) s .field .misshapen ≡ false
   table-plain = held false s lent (ended-says _ _ table-ended) .plain refl
@@ -208,7 +187,7 @@ module _ (s : List ℕ) (lent : Slice s) (accepted : tableRead s .answer ≡ Acc
 module _ (s : List ℕ) (lent : Slice s) (accepted : planRead s .answer ≡ Accepted) where
   plan-ended : planEnded (read (begun true) s .field) (read (begun true) s .plan) ≡ Accepted
   unfolding planRead planClosed
-  plan-ended = sym (plan-answer-is _ (read (begun true) s .plan)) ∙ accepted
+  plan-ended = sym (plan-has _ (read (begun true) s .plan)) ∙ accepted
 
   plan-is : planRead s .plan ≡ read (begun true) s .plan
   unfolding planRead planClosed
@@ -222,16 +201,3 @@ module _ (s : List ℕ) (lent : Slice s) (accepted : planRead s .answer ≡ Acce
   -- and its record is a good plan
   pub plan-is-good : checkedPlan (planRead s .plan) ≡ Accepted
   plan-is-good = rw plan-is (plan-ended-says _ _ plan-ended .1 .1)
-
--- after good fields only the shape is left to refuse
-pub shape-left : (s : List ℕ) → Slice s → endedAfter (read (begun true) s .field) (read (begun true) s .plan .count) ≡ Accepted
-    → planEnded (read (begun true) s .field) (read (begun true) s .plan)
-    ≡ cond (not (read (begun true) s .field .misshapen) && shape (read (begun true) s .plan .cores) (read (begun true) s .plan .count) (taskOf (read (begun true) s .plan)) (pieceOf (read (begun true) s .plan)) (read (begun true) s .plan .placed)) Accepted (Refused NoPlanShape)
-unfolding planEnded checkedPlan
-shape-left s lent h = go _ refl
-  where
-    go : (b : Bool) → read (begun true) s .field .misshapen ≡ b
-        → andThen (endedAfter (read (begun true) s .field) (read (begun true) s .plan .count)) (cond (read (begun true) s .field .misshapen) (Refused NoPlanShape) (checkedPlan (read (begun true) s .plan)))
-        ≡ cond (not (read (begun true) s .field .misshapen) && shape (read (begun true) s .plan .cores) (read (begun true) s .plan .count) (taskOf (read (begun true) s .plan)) (pieceOf (read (begun true) s .plan)) (read (begun true) s .plan .placed)) Accepted (Refused NoPlanShape)
-    go true e = rw (h, e)
-    go false e = rw (h, e, good true s lent (ended-says _ _ h) e)

@@ -19,7 +19,7 @@ use Rattle.tasks.specs.declared.Refusal.{Refusal}
 use Rattle.tasks.specs.declared.Table.{Table}
 use Rattle.writing.specs.Fields.{coreField, taskField, tasksBytes, tableBytes}
 use Rattle.force.specs.InForce.{firstTask, TaskFields, IsInForce, choice, inForce}
-use Rattle.files.specs.Reading.{defaultCores}
+use Rattle.files.specs.Grammar.{defaultCores}
 use Rattle.files.specs.Files.{tableRead}
 use Rattle.trips.proofs.Files.{Slice, table-written-again, table-is-good}
 use Rattle.writing.proofs.Writing.{task-field-length, row-length}

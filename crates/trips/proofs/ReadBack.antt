@@ -1,6 +1,6 @@
 -- What a field writer writes is read as the field that it was written for.
 use mathlib.Core.Path.{_≡_, refl, sym, ap, _∙_}
-use mathlib.Core.Bool.{Bool, true, false, _&&_, cond}
+use mathlib.Core.Bool.{Bool, true, false, _&&_}
 use mathlib.Core.List.{List, [], _∷_, _++_}
 use Prim.Native.Nat.{ℕ, _+_, _/_, _%_, _≤_, _<_}
 use native.Mathlib.Omega.{arith}
@@ -16,19 +16,14 @@ use Rattle.plans.specs.declared.Kind.the-variants.{Whole, Share}
 use Rattle.plans.specs.declared.Piece.{Piece}
 use Rattle.plans.specs.declared.Plan.{Plan}
 use Rattle.tasks.specs.Places.{further}
-use Rattle.files.specs.Fields.{number2, number4, tag, tagFits, lengthFor, kindOf, values, verdict, hold, fieldAt, pieceTaken, nextField, withTask, withPiece, added, settled, step, read}
-use Rattle.files.specs.Reading.{begun, emptyPlan}
+use Rattle.files.specs.Grammar.{number2, number4, lengthFor, kindOf, emptyPlan, valuesFault}
+use Rattle.files.specs.Fields.{tag, tagFits, values, verdict, hold, fieldAt, pieceTaken, nextField, withTask, withPiece, added, settled, step, read}
+use Rattle.files.specs.Reading.{begun}
 use Rattle.writing.specs.Fields.{bytes4, kindByte, coreField, taskField, pieceField}
 use Rattle.files.specs.declared.Field.{Field}
 use Rattle.files.specs.declared.Reader.{Reader}
 use Rattle.trips.proofs.Numbers.{number-back}
-use Rattle.files.proofs.Fields.{reader, body-waits, body-whole, step-good, hold-bad}
-
--- a byte more, where there is room for it
-pub hold-is : (f : Field) (b : ℕ) → f .count < 15
-    → hold f b ≡ record { pieces = f .pieces; bad = f .bad; place = f .place; end = f .end; misshapen = f .misshapen; count = f .count + 1; bytes = set (f .bytes) (f .count) b }
-unfolding hold
-hold-is f b h = rw (lt-ltb (f .count) 15 h)
+use Rattle.files.proofs.Fields.{reader, length-most, body-waits, body-whole, hold-is, step-good, hold-bad}
 
 -- the header of a field is whole and good, n tasks having been read
 pub record Headed (f : Field) (n : ℕ) : Type 0 where
@@ -68,14 +63,6 @@ unfoldable pub holds : Field → List ℕ → Field
 holds f [] = f
 holds f (b ∷ bs) = holds (hold f b) bs
 
-pub length-most : (g : ℕ) → lengthFor g ≤ 12
-length-most g = go (eqb g 1) (eqb g 2)
-  where
-    go : (a b : Bool) → cond a 1 (cond b 12 7) ≤ 12
-    go true b = omega arith
-    go false true = omega arith
-    go false false = omega arith
-
 -- a body is held as it comes in, and judged with its last byte
 pub read-body : (bs : List ℕ) (z : ℕ) (f : Field) (p : Plan) → f .bad ≡ 0 → Headed f (p .count) → f .count + length bs + 1 ≡ 3 + lengthFor (tag f)
     → read (reader f p) (bs ++ (z ∷ [])) ≡ settled (values (hold (holds f bs) z)) (hold (holds f bs) z) p
@@ -108,13 +95,13 @@ first3 x = x / 16777216 % 256 ∷ x / 65536 % 256 ∷ x / 256 % 256 ∷ []
 
 -- a core count is read at the start of a file
 pub read-cores : (o : Bool) (m : ℕ) → coresFit m ≡ true → read (begun o) (coreField m) ≡ reader (fieldAt o 4 4 false) (emptyPlan m)
-unfolding read step hold verdict tagFits values nextField added further coreField
+unfolding read step hold verdict tagFits valuesFault nextField added further coreField
 read-cores o m h = rw h
 
 -- a task is read where no piece was
 pub read-task : (o : Bool) (q : ℕ) (w : Bool) (p : Plan) (t : Task) → p .count < 64 → valuesFit t ≡ true
     → read (reader (fieldAt o q q w) p) (taskField t) ≡ reader (fieldAt o (further q 15) (further q 15) w) (withTask p t)
-unfolding taskField tagFits hold holds values nextField added
+unfolding taskField tagFits hold holds valuesFault nextField added
 read-task o q w p t l v =
     let r : Ranges t = values-say t v in
     let c : number4 (bytes4 (t .cost)) 0 ≡ t .cost = number-back (t .cost) (omega arith) in
@@ -133,7 +120,7 @@ kind-taken Share = refl
 -- a piece is read in a plan file
 pub read-piece : (q e : ℕ) (w : Bool) (p : Plan) (z : Piece) → p .placed < 128 → z .cost < 4294967296
     → read (reader (fieldAt true q e w) p) (pieceField z) ≡ reader (fieldAt true (further q 10) e w) (withPiece p z)
-unfolding pieceField tagFits hold holds values nextField added pieceTaken
+unfolding pieceField tagFits hold holds valuesFault nextField added pieceTaken
 read-piece q e w p z l v =
     let c : number4 (bytes4 (z .cost)) 0 ≡ z .cost = number-back (z .cost) v in
     read-written true q e w p 3 0 7 (z .task .0 ∷ z .core .0 ∷ kindByte (z .kind) ∷ first3 (z .cost)) (z .cost % 256) (record { whole = omega arith; fits = refl; room = refl; size = refl }) (omega arith) refl ∙ rw (kind-taken (z .kind), lt-ltb (p .placed) 128 l, kind-back (z .kind), c)

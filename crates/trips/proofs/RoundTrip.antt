@@ -23,8 +23,9 @@ use Rattle.plans.specs.declared.Plan.{Plan}
 use Rattle.writing.specs.Fields.{coreField, taskField, pieceField, tasksBytes, tableBytes, planBytes}
 use Rattle.tasks.specs.Places.{further}
 use Rattle.tasks.proofs.Places.{further-is}
+use Rattle.files.specs.Grammar.{emptyPlan}
 use Rattle.files.specs.Fields.{fieldAt, read}
-use Rattle.files.specs.Reading.{begun, emptyPlan, ended, tableClosed, planEnded, planClosed}
+use Rattle.files.specs.Reading.{begun, ended, tableClosed, planEnded, planClosed}
 use Rattle.files.specs.Files.{tableRead, planRead}
 use Rattle.files.specs.declared.Field.{Field}
 use Rattle.files.specs.declared.Reader.{Reader}

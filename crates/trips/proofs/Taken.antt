@@ -2,66 +2,29 @@
 use mathlib.Core.Path.{_≡_, refl, sym, ap, _∙_}
 use mathlib.Core.Bool.{Bool, true, false, not, _&&_, cond}
 use mathlib.Core.List.{List, [], _∷_, _++_}
-use mathlib.Core.Logic.{_⊎_, inl, inr}
 use Prim.Native.Nat.{ℕ, _+_, _≤_, _<_}
 use native.Mathlib.Decide.{ℕ-discrete}
 use native.Mathlib.Omega.{arith}
 use lib.Dec.{leb, ltb, eqb}
 use lib.ListN.{length, getD, take}
 use lib.Seq.{length-take-le, getD-take}
-use borrow.Author.Tests.{leb-true, ltb-true, ltb-false, eqb-true, eq-eqb, ne-eqb, not-false}
-use Rattle.tasks.proofs.Bools.{both, clash}
+use borrow.Author.Tests.{ltb-true, ne-eqb}
+use Rattle.tasks.proofs.Bools.{both}
 use Rattle.tasks.proofs.Padded.{tabulate-is}
 use Rattle.tasks.specs.Below.{tabulate}
-use Rattle.tasks.specs.Tables.{coresFit, valuesFit}
-use Rattle.files.specs.Fields.{number2, number4, tag, tagFits, lengthFor, taskIn, pieceIn, kindOf, values, verdict, pieceTaken}
+use Rattle.files.specs.Grammar.{number2, number4, lengthFor, kindOf}
+use Rattle.files.specs.Fields.{tag, tagFits, taskIn, pieceIn, values, verdict, pieceTaken}
+use Rattle.files.proofs.Found.{values-not-one}
 use Rattle.writing.specs.Fields.{bytes4, kindByte, coreField, taskField, pieceField}
 use Rattle.files.specs.declared.Field.{Field}
 use Rattle.trips.proofs.Numbers.{bytes-back}
 
 -- ---- what a verdict says
 
--- what would be refused, or waits, is not so
-not-bad : (b : Bool) (x v : ℕ) → 0 < x → cond b x v ≡ 0 → (b ≡ false) × (v ≡ 0)
-not-bad true x v l h = absurd (omega arith)
-not-bad false x v l h = (refl, h)
-
-good-test : (b : Bool) (x : ℕ) → 0 < x → cond b 0 x ≡ 0 → b ≡ true
-good-test true x l h = refl
-good-test false x l h = absurd (omega arith)
-
--- what is known of a good field
-pub record Found (f : Field) : Type 0 where
-  pub fits : tagFits f ≡ true
-  pub size : number2 (f .bytes) 1 ≡ lengthFor (tag f)
-  pub whole : 3 + lengthFor (tag f) ≤ f .count
-  pub values : values f ≡ 0
-
-pub good-found : (f : Field) (n : ℕ) → verdict f n ≡ 0 → Found f
-unfolding verdict
-good-found f n h =
-    let a = not-bad (ltb (f .count) 3) 1 _ (omega arith) h in
-    let b = not-bad (not (tagFits f)) 2 _ (omega arith) (a .1) in
-    let c = not-bad (eqb (tag f) 2 && leb 64 n) 6 _ (omega arith) (b .1) in
-    let d = not-bad (not (eqb (number2 (f .bytes) 1) (lengthFor (tag f)))) 3 _ (omega arith) (c .1) in
-    let e = not-bad (ltb (f .count) (3 + lengthFor (tag f))) 1 _ (omega arith) (d .1) in
-    record { fits = not-false _ (b .0); size = eqb-true _ _ (not-false _ (d .0)); whole = ltb-false _ _ (e .0); values = e .1 }
-
 -- a field that waits is not whole
 waits-test : (b : Bool) (x v : ℕ) → 1 < x → cond b x v ≡ 1 → v ≡ 1
 waits-test true x v l h = absurd (omega arith)
 waits-test false x v l h = h
-
-values-waits : (f : Field) → values f ≡ 1 → ⊥
-unfolding values
-values-waits f h = go (eqb (tag f) 1) (eqb (tag f) 2) (coresFit (getD (f .bytes) 3 0)) (valuesFit (taskIn f)) h
-  where
-    go : (a b c d : Bool) → _≡_ {A = ℕ} (cond a (cond c 0 4) (cond b (cond d 0 5) 0)) 1 → ⊥
-    go true b true d q = omega arith
-    go true b false d q = omega arith
-    go false true c true q = omega arith
-    go false true c false q = omega arith
-    go false false c d q = omega arith
 
 pub waits-short : (f : Field) (n : ℕ) → verdict f n ≡ 1 → f .count < 3 + lengthFor (tag f)
 unfolding verdict
@@ -69,30 +32,11 @@ waits-short f n h = first _ refl
   where
     last : (b : Bool) → ltb (f .count) (3 + lengthFor (tag f)) ≡ b → cond b 1 (values f) ≡ 1 → f .count < 3 + lengthFor (tag f)
     last true q k = ltb-true _ _ q
-    last false q k = absurd (values-waits f k)
+    last false q k = absurd (values-not-one (f .bytes) k)
 
     first : (b : Bool) → ltb (f .count) 3 ≡ b → f .count < 3 + lengthFor (tag f)
     first true q = omega (arith, ltb-true (f .count) 3 q)
     first false q = last _ refl (waits-test (not (eqb (number2 (f .bytes) 1) (lengthFor (tag f)))) 3 _ (omega arith) (waits-test (eqb (tag f) 2 && leb 64 n) 6 _ (omega arith) (waits-test (not (tagFits f)) 2 _ (omega arith) (rw q at h))))
-
--- a core count at the start, a task before any piece, or a piece in a plan file
-pub tag-cases : (f : Field) → tagFits f ≡ true → ((tag f ≡ 1) × (f .place ≡ 0)) ⊎ (((tag f ≡ 2) × (f .place ≤ f .end)) ⊎ ((tag f ≡ 3) × (f .pieces ≡ true)))
-unfolding tagFits
-tag-cases f h = go (ℕ-discrete (tag f) 1) (ℕ-discrete (tag f) 2) (ℕ-discrete (tag f) 3)
-  where
-    go : Dec (tag f ≡ 1) → Dec (tag f ≡ 2) → Dec (tag f ≡ 3) → ((tag f ≡ 1) × (f .place ≡ 0)) ⊎ (((tag f ≡ 2) × (f .place ≤ f .end)) ⊎ ((tag f ≡ 3) × (f .pieces ≡ true)))
-    go (yes a) b c = inl (a, eqb-true _ _ (rw (eq-eqb _ _ a) at h))
-    go (no a) (yes b) c = inr (inl (b, leb-true _ _ (rw (ne-eqb _ _ a, eq-eqb _ _ b) at h)))
-    go (no a) (no b) (yes c) = inr (inr (c, rw (ne-eqb _ _ a, ne-eqb _ _ b, eq-eqb _ _ c) at h))
-    go (no a) (no b) (no c) = clash (rw (ne-eqb _ _ a, ne-eqb _ _ b, ne-eqb _ _ c) at h) refl
-
-pub cores-good : (f : Field) → tag f ≡ 1 → values f ≡ 0 → coresFit (getD (f .bytes) 3 0) ≡ true
-unfolding values
-cores-good f e h = good-test (coresFit (getD (f .bytes) 3 0)) 4 (omega arith) (rw (eq-eqb _ _ e) at h)
-
-pub values-good : (f : Field) → tag f ≡ 2 → values f ≡ 0 → valuesFit (taskIn f) ≡ true
-unfolding values
-values-good f e h = good-test (valuesFit (taskIn f)) 5 (omega arith) (rw (ne-eqb (tag f) 1 (λ q. omega arith), eq-eqb _ _ e) at h)
 
 -- a piece that is taken is no 129th
 pub piece-room : (f : Field) (n : ℕ) → pieceTaken f n ≡ true → n < 128

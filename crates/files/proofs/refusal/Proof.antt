@@ -1,4 +1,4 @@
-use Rattle.files.specs.Reading.{refusal}
+use Rattle.files.specs.Grammar.{refusal}
 use borrow.Author.Tests.{eq-eqb, ne-eqb}
 use Rattle.files.proofs.refusal.Statement.{statement}
 use Rattle.files.proofs.refusal.Tie as tie

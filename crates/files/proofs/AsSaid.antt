@@ -1,0 +1,176 @@
+-- Reading a file byte after byte gives the answer and the record that document 01 says of the file.
+use mathlib.Core.Path.{_≡_, refl, sym, ap, _∙_}
+use mathlib.Core.Bool.{Bool, true, false, cond}
+use mathlib.Core.List.{List, [], _∷_}
+use mathlib.Core.Logic.{_⊎_, inl, inr}
+use Prim.Native.Nat.{ℕ, _+_, _≤_, _<_}
+use native.Mathlib.Omega.{arith}
+use lib.Dec.{leb, eqb}
+use lib.ListN.{length}
+use borrow.Author.Tests.{eqb-false, lt-leb}
+use Rattle.tasks.proofs.Answers.{accepted-not}
+use Rattle.tasks.proofs.Bools.{clash, not-first, not-second}
+use Rattle.tasks.specs.Places.{placeAt}
+use Rattle.tasks.specs.Tables.{andThen, checkedTasks}
+use Rattle.tasks.specs.declared.Answer.{Answer}
+use Rattle.tasks.specs.declared.Answer.the-variants.{Accepted, Refused}
+use Rattle.tasks.specs.declared.Refusal.{Refusal}
+use Rattle.tasks.specs.declared.Refusal.the-variants.{TasksAt, NoPlanShape}
+use Rattle.tasks.specs.declared.Task.{Task}
+use Rattle.plans.specs.Pieces.{taskOf, pieceOf}
+use Rattle.plans.specs.declared.Piece.{Piece}
+use Rattle.plans.specs.declared.Plan.{Plan}
+use Rattle.plans.specs.Shape.{shape, checkedPlan}
+use Rattle.files.specs.Fields.{fieldAt, refusedField, read}
+use Rattle.files.specs.declared.Field.{Field}
+use Rattle.files.specs.declared.Reader.{Reader}
+use Rattle.files.specs.Reading.{begun, movedTo, ended, fieldsAnswer, endedAfter, planEnded, tableClosed, planClosed}
+use Rattle.files.specs.declared.ReadPlan.{ReadPlan}
+use Rattle.files.specs.Files.{tableRead, planRead}
+use Rattle.files.specs.Grammar.{defaultCores, refusal, tableAnswered, planAnswered, filledTo, fieldsOf, start, judged, tasksIn, piecesIn, kindsFit, coresIn, tasksEnd, recordOf, recordIn, someTask, fieldsGood, shapeGood, tableSaid, planSaid}
+use Rattle.files.proofs.FirstBad.{positive}
+use Rattle.files.proofs.GoodFields.{table-good}
+use Rattle.files.proofs.Named.{coresFrom}
+use Rattle.files.proofs.Turns.{Through}
+use Rattle.files.proofs.FieldsRead.{FieldsRead, fields-read}
+
+-- a file's length is one that a machine word holds
+abbrev pub Fits : List ℕ → Type 0
+Fits s = length s ≤ 18446744073709551615
+
+-- a file, read from its start
+start-read : (o : Bool) (s : List ℕ) → Fits s → FieldsRead o 0 0 false defaultCores [] [] (fieldsOf s) (read (begun o) s)
+unfolding filledTo
+start-read o s lent = fields-read (length s) s o 0 0 false defaultCores [] [] (omega arith) (omega arith) (omega (arith, lent))
+
+-- at the start the known core count is 4
+cores-is : (fs : List (List ℕ)) → coresFrom true defaultCores fs ≡ coresIn fs
+cores-is [] = refl
+cores-is (f ∷ fs) = refl
+
+-- behind good fields only the number of tasks is left to ask
+at-end : (o : Bool) (place end : ℕ) (w : Bool) (n : ℕ) → endedAfter (fieldAt o place end w) n ≡ cond (eqb n 0) (Refused (TasksAt (placeAt end))) Accepted
+unfolding ended refusal
+at-end o place end w n = go (eqb n 0)
+  where
+    go : (b : Bool) → fieldsAnswer (cond b (refusedField (movedTo (fieldAt o place end w) end) 6) (fieldAt o place end w)) ≡ cond b (Refused (TasksAt (placeAt end))) Accepted
+    go true = refl
+    go false = refl
+
+-- so the reader's last word is document 01's
+end-is : (o : Bool) (fs : List (List ℕ)) (r : Reader) → Through o 0 0 false defaultCores [] [] fs r → endedAfter (r .field) (r .plan .count) ≡ someTask fs
+end-is o fs r t = ap (λ (x : Reader). endedAfter (x .field) (x .plan .count)) (t .is) ∙ at-end o (t .place) (tasksEnd 0 fs) (t .spoilt) (length (tasksIn fs))
+
+-- where no task is missing there is one
+pub some-task : (fs : List (List ℕ)) → someTask fs ≡ Accepted → 1 ≤ length (tasksIn fs)
+some-task fs h = go _ refl h
+  where
+    go : (c : Bool) → eqb (length (tasksIn fs)) 0 ≡ c → cond c (Refused (TasksAt (placeAt (tasksEnd 0 fs)))) Accepted ≡ Accepted → 1 ≤ length (tasksIn fs)
+    go true e q = accepted-not q
+    go false e q = positive (length (tasksIn fs)) (eqb-false (length (tasksIn fs)) 0 e)
+
+-- ---- a table file
+
+-- a table's record has no pieces
+no-pieces : (a : Answer) (m : ℕ) (ts : List Task) (ps qs : List Piece) → tableAnswered a (recordOf m ts ps) ≡ tableAnswered a (recordOf m ts qs)
+no-pieces Accepted m ts ps qs = refl
+no-pieces (Refused x) m ts ps qs = refl
+
+-- every table file is read as document 01 says
+pub table-as-said : (s : List ℕ) → Fits s → tableRead s ≡ tableSaid s
+unfolding tableRead tableClosed tableSaid
+table-as-said s lent = go (start-read false s lent)
+  where
+    go : FieldsRead false 0 0 false defaultCores [] [] (fieldsOf s) (read (begun false) s) → tableAnswered (endedAfter (read (begun false) s .field) (read (begun false) s .plan .count)) (read (begun false) s .plan) ≡ tableAnswered (fieldsGood false (fieldsOf s)) (recordIn (fieldsOf s))
+    go (inl b) =
+        let j : judged false start 0 (fieldsOf s) ≡ Refused (refusal (b .number) (b .place)) = b .is in
+        rw (b .refuses (read (begun false) s .plan .count), j)
+    go (inr b) =
+        let j : judged false start 0 (fieldsOf s) ≡ Accepted = b .0 in
+        let t : Through false 0 0 false defaultCores [] [] (fieldsOf s) (read (begun false) s) = b .1 in
+        ap (λ (a : Answer). tableAnswered a (read (begun false) s .plan)) (end-is false (fieldsOf s) (read (begun false) s) t)
+        ∙ ap (λ (x : Reader). tableAnswered (someTask (fieldsOf s)) (x .plan)) (t .is)
+        ∙ no-pieces (someTask (fieldsOf s)) (coresFrom true defaultCores (fieldsOf s)) (tasksIn (fieldsOf s)) (t .taken) (piecesIn (fieldsOf s))
+        ∙ rw (cores-is (fieldsOf s), j)
+
+-- ---- a plan file
+
+-- more than 128 pieces have no shape
+shape-many : (m n : ℕ) (ts : ℕ → Task) (pc : ℕ → Piece) (k : ℕ) → 128 < k → shape m n ts pc k ≡ false
+unfolding shape
+shape-many m n ts pc k h = not-first _ (not-first _ (not-second (leb 1 k) (lt-leb k 128 h)))
+
+-- a spoilt reader's file has no shape
+spoilt-shape : (fs : List (List ℕ)) (p : Plan) → p .placed ≡ length (piecesIn fs) → (false ≡ true) ⊎ ((kindsFit fs ≡ false) ⊎ (128 < 0 + length (piecesIn fs))) → shapeGood fs p ≡ Refused NoPlanShape
+spoilt-shape fs p e (inl a) = clash a refl
+spoilt-shape fs p e (inr (inl a)) = rw a
+spoilt-shape fs p e (inr (inr l)) = rw (not-second (kindsFit fs) (shape-many (p .cores) (p .count) (taskOf p) (pieceOf p) (p .placed) (omega arith)))
+
+-- a refusal of the fields is the plan file's
+field-refused : (f : Field) (p : Plan) (x : Refusal) → endedAfter f (p .count) ≡ Refused x → planEnded f p ≡ Refused x
+unfolding planEnded
+field-refused f p x h = rw h
+
+-- behind good fields a plan file is judged by its pieces and its record
+fields-passed : (f : Field) (p : Plan) → endedAfter f (p .count) ≡ Accepted → planEnded f p ≡ cond (f .misshapen) (Refused NoPlanShape) (checkedPlan p)
+unfolding planEnded
+fields-passed f p h = rw h
+
+-- a plan with a good table is judged by its shape
+table-checked : (p : Plan) → checkedTasks (p .cores) (p .count) (taskOf p) ≡ Accepted → checkedPlan p ≡ cond (shape (p .cores) (p .count) (taskOf p) (pieceOf p) (p .placed)) Accepted (Refused NoPlanShape)
+unfolding checkedPlan
+table-checked p h = rw h
+
+-- every plan file is read as document 01 says
+pub plan-as-said : (s : List ℕ) → Fits s → planRead s ≡ planSaid s
+unfolding planRead planClosed planSaid
+plan-as-said s lent = go (start-read true s lent)
+  where
+    said : Answer → ReadPlan
+    said a = planAnswered (andThen a (shapeGood (fieldsOf s) (recordIn (fieldsOf s)))) (recordIn (fieldsOf s))
+
+    refused : (x : Refusal) (p : Plan) → endedAfter (read (begun true) s .field) (read (begun true) s .plan .count) ≡ Refused x → planAnswered (planEnded (read (begun true) s .field) (read (begun true) s .plan)) p ≡ said (Refused x)
+    refused x p h = ap (λ (a : Answer). planAnswered a p) (field-refused (read (begun true) s .field) (read (begun true) s .plan) x h)
+
+    go : FieldsRead true 0 0 false defaultCores [] [] (fieldsOf s) (read (begun true) s) → planAnswered (planEnded (read (begun true) s .field) (read (begun true) s .plan)) (read (begun true) s .plan) ≡ said (fieldsGood true (fieldsOf s))
+    go (inl b) =
+        let j : judged true start 0 (fieldsOf s) ≡ Refused (refusal (b .number) (b .place)) = b .is in
+        refused (refusal (b .number) (b .place)) (read (begun true) s .plan) (b .refuses (read (begun true) s .plan .count)) ∙ rw j
+    go (inr b) = answer _ refl
+      where
+        t : Through true 0 0 false defaultCores [] [] (fieldsOf s) (read (begun true) s)
+        t = b .1
+
+        j : judged true start 0 (fieldsOf s) ≡ Accepted
+        j = b .0
+
+        ends : endedAfter (read (begun true) s .field) (read (begun true) s .plan .count) ≡ someTask (fieldsOf s)
+        ends = end-is true (fieldsOf s) (read (begun true) s) t
+
+        -- behind good fields what was read is judged as a record
+        left : endedAfter (read (begun true) s .field) (read (begun true) s .plan .count) ≡ Accepted → planEnded (read (begun true) s .field) (read (begun true) s .plan) ≡ cond (read (begun true) s .field .misshapen) (Refused NoPlanShape) (checkedPlan (read (begun true) s .plan))
+        left h = fields-passed (read (begun true) s .field) (read (begun true) s .plan) h
+
+        -- and of it only the shape is left to refuse
+        checked : someTask (fieldsOf s) ≡ Accepted → checkedPlan (recordIn (fieldsOf s)) ≡ cond (shape (coresIn (fieldsOf s)) (length (tasksIn (fieldsOf s))) (taskOf (recordIn (fieldsOf s))) (pieceOf (recordIn (fieldsOf s))) (length (piecesIn (fieldsOf s)))) Accepted (Refused NoPlanShape)
+        checked h = table-checked (recordIn (fieldsOf s)) (table-good true (fieldsOf s) j (some-task (fieldsOf s) h))
+
+        -- the reader is spoilt exactly where a kind or the number of pieces is bad
+        shaped : (w : Bool) → t .spoilt ≡ w → someTask (fieldsOf s) ≡ Accepted → planAnswered (planEnded (read (begun true) s .field) (read (begun true) s .plan)) (read (begun true) s .plan) ≡ said Accepted
+        shaped true q h =
+            let m : read (begun true) s .field .misshapen ≡ true = ap (λ (x : Reader). x .field .misshapen) (t .is) ∙ q in
+            let a : planEnded (read (begun true) s .field) (read (begun true) s .plan) ≡ Refused NoPlanShape = left (ends ∙ h) ∙ rw m in
+            ap (λ (x : Answer). planAnswered x (read (begun true) s .plan)) a ∙ rw (spoilt-shape (fieldsOf s) (recordIn (fieldsOf s)) refl (t .spoils q))
+        shaped false q h =
+            let m : read (begun true) s .field .misshapen ≡ false = ap (λ (x : Reader). x .field .misshapen) (t .is) ∙ q in
+            let z : t .taken ≡ piecesIn (fieldsOf s) = t .plain q .1 .0 in
+            let p : read (begun true) s .plan ≡ recordIn (fieldsOf s) = ap (λ (x : Reader). x .plan) (t .is) ∙ rw (z, cores-is (fieldsOf s)) in
+            let a : planEnded (read (begun true) s .field) (read (begun true) s .plan) ≡ shapeGood (fieldsOf s) (recordIn (fieldsOf s)) = left (ends ∙ h) ∙ rw (m, p) (checked h ∙ rw (t .plain q .1 .1)) in
+            ap (λ (x : Answer). planAnswered x (read (begun true) s .plan)) a ∙ rw p
+
+        fields-are : (a : Answer) → someTask (fieldsOf s) ≡ a → fieldsGood true (fieldsOf s) ≡ a
+        fields-are a q = rw j q
+
+        answer : (a : Answer) → someTask (fieldsOf s) ≡ a → planAnswered (planEnded (read (begun true) s .field) (read (begun true) s .plan)) (read (begun true) s .plan) ≡ said (fieldsGood true (fieldsOf s))
+        answer Accepted q = shaped _ refl q ∙ ap said (sym (fields-are _ q))
+        answer (Refused x) q = refused x (read (begun true) s .plan) (ends ∙ q) ∙ ap said (sym (fields-are _ q))
