@@ -1,3 +1,4 @@
 pub mod AllowedTurns
+pub mod SameSets
 pub mod Settled
 pub mod Turns

@@ -21,4 +21,5 @@ pub mod OtherCores
 pub mod RunsOut
 pub mod NoPlace
 pub mod Refusal
+pub mod SameTables
 pub mod Settled

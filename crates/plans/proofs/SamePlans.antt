@@ -6,22 +6,13 @@ use native.Mathlib.Decide.{decLt}
 use native.Mathlib.Omega.{arith}
 use lib.Dec.{ltb, eqb}
 use borrow.Author.Tests.{lt-leb, le-ltb}
-use Rattle.tasks.specs.Tables.{valuesFit, checkedTasks}
 use Rattle.tasks.specs.declared.Task.{Task}
-use Rattle.tasks.proofs.Below.{all-same, any-same, first-same, sum-same}
+use Rattle.tasks.proofs.Below.{all-same, sum-same}
+use Rattle.tasks.proofs.SameTables.{tasks-same}
 use Rattle.plans.specs.Pieces.{taskOf, pieceOf, costs, SamePlan}
 use Rattle.plans.specs.Shape.{sameTask, inOrder, isLast, pieceFits, shape, checkedPlan}
 use Rattle.plans.specs.declared.Piece.{Piece}
 use Rattle.plans.specs.declared.Plan.{Plan}
-
--- ---- tasks
-tasks-same : (m n : ℕ) (ts us : ℕ → Task) → ((i : ℕ) → i < n → ts i ≡ us i) → checkedTasks m n ts ≡ checkedTasks m n us
-unfolding checkedTasks
-tasks-same m n ts us h =
-    rw (
-      any-same n (λ i. not (valuesFit (ts i))) (λ i. not (valuesFit (us i))) (λ i l. ap (λ (t : Task). not (valuesFit t)) (h i l)),
-      first-same n (λ i. not (valuesFit (ts i))) (λ i. not (valuesFit (us i))) (λ i l. ap (λ (t : Task). not (valuesFit t)) (h i l)),
-    )
 
 -- ---- pieces: n of them agree
 module _ (pc qc : ℕ → Piece) (n : ℕ) (same : (j : ℕ) → j < n → pc j ≡ qc j) where

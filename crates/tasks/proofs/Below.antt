@@ -1,6 +1,7 @@
 -- Laws of tests and sums over the numbers below n.
 use mathlib.Core.Path.{_≡_, refl, sym, ap}
 use mathlib.Core.Bool.{Bool, true, false, not, _&&_, _||_, cond}
+use mathlib.Core.List.{List}
 use mathlib.Core.Logic.{_⊎_, inl, inr, ⊎-elim}
 use Prim.Native.Nat.{ℕ, zero, suc, _+_, _*_, _≤_, _<_}
 use native.Mathlib.Decide.{ℕ-discrete}
@@ -10,7 +11,7 @@ use native.Mathlib.Omega.{arith}
 use lib.Arith.{le-zero}
 use borrow.Author.Tests.{not-false}
 use Rattle.tasks.proofs.Bools.{clash, either, both, both-make, not-first, not-second, one-of, left-one, right-one, neither}
-use Rattle.tasks.specs.Below.{all, any, first, sum, count}
+use Rattle.tasks.specs.Below.{all, any, first, sum, count, row}
 
 -- below suc n is below n, or n
 under : {j n : ℕ} → j < suc n → (j < n) ⊎ (j ≡ n)
@@ -222,3 +223,11 @@ count-le n f = omega (arith, sum-le n (λ k. cond (f k) 1 0) (λ k. 1) (λ j l. 
 pub count-same : (n : ℕ) (f g : ℕ → Bool) → ((j : ℕ) → j < n → f j ≡ g j) → count n f ≡ count n g
 unfolding count
 count-same n f g h = sum-same n (λ k. cond (f k) 1 0) (λ k. cond (g k) 1 0) (λ j l. ap (λ (b : Bool). cond b 1 0) (h j l))
+
+-- ---- row
+
+-- rows of the same lists are the same
+pub row-same : {A : Type 0} (n : ℕ) (f g : ℕ → List A) → ((i : ℕ) → i < n → f i ≡ g i) → row n f ≡ row n g
+unfolding row
+row-same zero f g h = refl
+row-same (suc n) f g h = rw (row-same n f g (λ i l. h i (omega arith)), h n (omega arith))

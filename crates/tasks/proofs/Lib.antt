@@ -4,6 +4,7 @@ pub mod Padded
 pub mod Answers
 pub mod Refusals
 pub mod Tables
+pub mod SameTables
 pub mod Places
 pub mod Tabulate
 pub mod Counting

@@ -3,7 +3,7 @@ use mathlib.Core.Path.{_≡_, refl, sym, ap, _∙_}
 use mathlib.Core.Bool.{Bool, true, false, cond}
 use mathlib.Core.List.{List, [], _∷_, _++_, append-assoc, append-nil}
 use mathlib.Core.Logic.{_⊎_, inl, inr}
-use Prim.Native.Nat.{ℕ, zero, suc, _+_, _≤_, _<_}
+use Prim.Native.Nat.{ℕ, suc, _+_, _≤_, _<_}
 use native.Mathlib.Decide.{ℕ-discrete, decLt}
 use native.Mathlib.Numerals.{add-one}
 use native.Mathlib.Omega.{arith}
@@ -12,6 +12,7 @@ use lib.ListN.{length, getD, set, take, replicate, length-append, length-set}
 use lib.Seq.{length-take-le, take-suc-set, getD-set-same, getD-set-other}
 use borrow.Author.Tests.{eq-eqb}
 use Rattle.tasks.specs.Below.{row}
+use Rattle.tasks.proofs.Below.{row-same}
 use Rattle.tasks.proofs.Bools.{clash}
 use Rattle.tasks.specs.Tables.{noTask, coresFit, valuesFit}
 use Rattle.tasks.specs.declared.Task.{Task}
@@ -91,11 +92,6 @@ hold-held o s f p b h l k = rw (hold-is f b l) (record {
     byte i (no e) = rw (getD-set-other (f .bytes) (f .count) i b 0 e) (h .small i)
 
 -- ---- a good field is taken
-
-row-same : (n : ℕ) (f g : ℕ → List ℕ) → ((i : ℕ) → i < n → f i ≡ g i) → row n f ≡ row n g
-unfolding row
-row-same zero f g h = refl
-row-same (suc n) f g h = rw (row-same n f g (λ i l. h i (omega arith)), h n (omega arith))
 
 -- one entry more is one field more
 row-set : {A : Type 0} (F : A → List ℕ) (xs : List A) (n : ℕ) (x d : A) → n < length xs → row (n + 1) (λ i. F (getD (set xs n x) i d)) ≡ row n (λ i. F (getD xs i d)) ++ F x
