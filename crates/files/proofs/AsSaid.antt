@@ -4,6 +4,7 @@ use mathlib.Core.Bool.{Bool, true, false, cond}
 use mathlib.Core.List.{List, [], _∷_}
 use mathlib.Core.Logic.{_⊎_, inl, inr}
 use Prim.Native.Nat.{ℕ, _+_, _≤_, _<_}
+use native.Mathlib.Decide.{decLt}
 use native.Mathlib.Omega.{arith}
 use lib.Dec.{leb, eqb}
 use lib.ListN.{length}
@@ -24,12 +25,13 @@ use Rattle.plans.specs.Shape.{shape, checkedPlan}
 use Rattle.files.specs.Fields.{fieldAt, refusedField, read}
 use Rattle.files.specs.declared.Field.{Field}
 use Rattle.files.specs.declared.Reader.{Reader}
-use Rattle.files.specs.Reading.{begun, movedTo, ended, fieldsAnswer, endedAfter, planEnded, tableClosed, planClosed}
+use Rattle.files.specs.Reading.{begun, movedTo, ended, fieldsAnswer, endedAfter, tableEnded, planEnded, cleanPlan, tableClosed, planClosed}
 use Rattle.files.specs.declared.ReadPlan.{ReadPlan}
 use Rattle.files.specs.Files.{tableRead, planRead}
-use Rattle.files.specs.Grammar.{defaultCores, refusal, tableAnswered, planAnswered, filledTo, fieldsOf, start, judged, tasksIn, piecesIn, kindsFit, coresIn, tasksEnd, recordOf, recordIn, someTask, fieldsGood, shapeGood, tableSaid, planSaid}
+use Rattle.files.specs.Grammar.{defaultCores, refusal, tableAnswered, planAnswered, filledTo, fieldsOf, start, judged, tasksIn, piecesIn, kindsFit, coresIn, tasksEnd, recordIn, someTask, fieldsGood, shapeGood, tableSaid, planSaid}
 use Rattle.files.proofs.FirstBad.{positive}
-use Rattle.files.proofs.GoodFields.{table-good}
+use Rattle.files.proofs.GoodFields.{table-good, tasks-few, no-piece}
+use Rattle.files.proofs.Clean.{record-clean}
 use Rattle.files.proofs.Named.{coresFrom}
 use Rattle.files.proofs.Turns.{Through}
 use Rattle.files.proofs.FieldsRead.{FieldsRead, fields-read}
@@ -71,27 +73,70 @@ some-task fs h = go _ refl h
 
 -- ---- a table file
 
--- a table's record has no pieces
-no-pieces : (a : Answer) (m : ℕ) (ts : List Task) (ps qs : List Piece) → tableAnswered a (recordOf m ts ps) ≡ tableAnswered a (recordOf m ts qs)
-no-pieces Accepted m ts ps qs = refl
-no-pieces (Refused x) m ts ps qs = refl
+-- a refusal of the fields is the table file's
+table-refused : (f : Field) (p : Plan) (x : Refusal) → endedAfter f (p .count) ≡ Refused x → tableEnded f p ≡ Refused x
+unfolding tableEnded
+table-refused f p x h = rw h
+
+-- where no piece was read what was read is judged as a record
+table-left : (f : Field) (p : Plan) → f .pieces ≡ false → p .placed ≡ 0 → tableEnded f p ≡ andThen (endedAfter f (p .count)) (checkedTasks (p .cores) (p .count) (taskOf p))
+unfolding tableEnded
+table-left f p h k = rw (h, k)
+
+-- of a record that is clean if it is accepted the very record is given
+table-clean : (a : Answer) (p : Plan) → (a ≡ Accepted → cleanPlan p ≡ p) → tableAnswered a (cleanPlan p) ≡ tableAnswered a p
+table-clean Accepted p h = ap (tableAnswered Accepted) (h refl)
+table-clean (Refused x) p h = refl
 
 -- every table file is read as document 01 says
 pub table-as-said : (s : List ℕ) → Fits s → tableRead s ≡ tableSaid s
 unfolding tableRead tableClosed tableSaid
 table-as-said s lent = go (start-read false s lent)
   where
-    go : FieldsRead false 0 0 false defaultCores [] [] (fieldsOf s) (read (begun false) s) → tableAnswered (endedAfter (read (begun false) s .field) (read (begun false) s .plan .count)) (read (begun false) s .plan) ≡ tableAnswered (fieldsGood false (fieldsOf s)) (recordIn (fieldsOf s))
+    go : FieldsRead false 0 0 false defaultCores [] [] (fieldsOf s) (read (begun false) s)
+        → tableAnswered (tableEnded (read (begun false) s .field) (read (begun false) s .plan)) (cleanPlan (read (begun false) s .plan)) ≡ tableAnswered (fieldsGood false (fieldsOf s)) (recordIn (fieldsOf s))
     go (inl b) =
         let j : judged false start 0 (fieldsOf s) ≡ Refused (refusal (b .number) (b .place)) = b .is in
-        rw (b .refuses (read (begun false) s .plan .count), j)
+        let q : tableEnded (read (begun false) s .field) (read (begun false) s .plan) ≡ Refused (refusal (b .number) (b .place)) = table-refused (read (begun false) s .field) (read (begun false) s .plan) (refusal (b .number) (b .place)) (b .refuses (read (begun false) s .plan .count)) in
+        rw (q, j)
     go (inr b) =
-        let j : judged false start 0 (fieldsOf s) ≡ Accepted = b .0 in
-        let t : Through false 0 0 false defaultCores [] [] (fieldsOf s) (read (begun false) s) = b .1 in
-        ap (λ (a : Answer). tableAnswered a (read (begun false) s .plan)) (end-is false (fieldsOf s) (read (begun false) s) t)
-        ∙ ap (λ (x : Reader). tableAnswered (someTask (fieldsOf s)) (x .plan)) (t .is)
-        ∙ no-pieces (someTask (fieldsOf s)) (coresFrom true defaultCores (fieldsOf s)) (tasksIn (fieldsOf s)) (t .taken) (piecesIn (fieldsOf s))
-        ∙ rw (cores-is (fieldsOf s), j)
+        ap (λ (a : Answer). tableAnswered a (cleanPlan (read (begun false) s .plan))) ended-is
+        ∙ ap (λ (p : Plan). tableAnswered (someTask (fieldsOf s)) (cleanPlan p)) plan-is
+        ∙ table-clean (someTask (fieldsOf s)) (recordIn (fieldsOf s)) (λ h. record-clean (coresIn (fieldsOf s)) (tasksIn (fieldsOf s)) (piecesIn (fieldsOf s)) (tasks-few false (fieldsOf s) j) (omega (arith, ap length (none .0))))
+        ∙ rw j
+      where
+        j : judged false start 0 (fieldsOf s) ≡ Accepted
+        j = b .0
+
+        t : Through false 0 0 false defaultCores [] [] (fieldsOf s) (read (begun false) s)
+        t = b .1
+
+        none : (piecesIn (fieldsOf s) ≡ []) × (kindsFit (fieldsOf s) ≡ true)
+        none = no-piece (fieldsOf s) start 0 j
+
+        -- no piece was read
+        taken-none : (w : Bool) → t .spoilt ≡ w → t .taken ≡ piecesIn (fieldsOf s)
+        taken-none true q = spoilt (t .spoils q)
+          where
+            spoilt : (false ≡ true) ⊎ ((kindsFit (fieldsOf s) ≡ false) ⊎ (128 < 0 + length (piecesIn (fieldsOf s)))) → t .taken ≡ piecesIn (fieldsOf s)
+            spoilt (inl a) = clash a refl
+            spoilt (inr (inl a)) = clash (none .1) a
+            spoilt (inr (inr l)) = absurd (omega (arith, ap length (none .0)))
+        taken-none false q = t .plain q .1 .0
+
+        plan-is : read (begun false) s .plan ≡ recordIn (fieldsOf s)
+        plan-is = ap (λ (x : Reader). x .plan) (t .is) ∙ rw (taken-none _ refl, cores-is (fieldsOf s))
+
+        -- of good fields only the number of tasks is left to refuse
+        passes : (a : Answer) → someTask (fieldsOf s) ≡ a → andThen a (checkedTasks (read (begun false) s .plan .cores) (read (begun false) s .plan .count) (taskOf (read (begun false) s .plan))) ≡ a
+        passes Accepted q = ap (λ (p : Plan). checkedTasks (p .cores) (p .count) (taskOf p)) plan-is ∙ table-good false (fieldsOf s) j (some-task (fieldsOf s) q)
+        passes (Refused x) q = refl
+
+        ended-is : tableEnded (read (begun false) s .field) (read (begun false) s .plan) ≡ someTask (fieldsOf s)
+        ended-is =
+            table-left (read (begun false) s .field) (read (begun false) s .plan) (ap (λ (x : Reader). x .field .pieces) (t .is)) (ap (λ (p : Plan). p .placed) plan-is ∙ ap length (none .0))
+            ∙ ap (λ (a : Answer). andThen a (checkedTasks (read (begun false) s .plan .cores) (read (begun false) s .plan .count) (taskOf (read (begun false) s .plan)))) (end-is false (fieldsOf s) (read (begun false) s) t)
+            ∙ passes _ refl
 
 -- ---- a plan file
 
@@ -121,6 +166,11 @@ table-checked : (p : Plan) → checkedTasks (p .cores) (p .count) (taskOf p) ≡
 unfolding checkedPlan
 table-checked p h = rw h
 
+-- of a record that is clean if it is accepted the very record is given
+plan-clean : (a : Answer) (p : Plan) → (a ≡ Accepted → cleanPlan p ≡ p) → planAnswered a (cleanPlan p) ≡ planAnswered a p
+plan-clean Accepted p h = ap (planAnswered Accepted) (h refl)
+plan-clean (Refused x) p h = refl
+
 -- every plan file is read as document 01 says
 pub plan-as-said : (s : List ℕ) → Fits s → planRead s ≡ planSaid s
 unfolding planRead planClosed planSaid
@@ -132,10 +182,10 @@ plan-as-said s lent = go (start-read true s lent)
     refused : (x : Refusal) (p : Plan) → endedAfter (read (begun true) s .field) (read (begun true) s .plan .count) ≡ Refused x → planAnswered (planEnded (read (begun true) s .field) (read (begun true) s .plan)) p ≡ said (Refused x)
     refused x p h = ap (λ (a : Answer). planAnswered a p) (field-refused (read (begun true) s .field) (read (begun true) s .plan) x h)
 
-    go : FieldsRead true 0 0 false defaultCores [] [] (fieldsOf s) (read (begun true) s) → planAnswered (planEnded (read (begun true) s .field) (read (begun true) s .plan)) (read (begun true) s .plan) ≡ said (fieldsGood true (fieldsOf s))
+    go : FieldsRead true 0 0 false defaultCores [] [] (fieldsOf s) (read (begun true) s) → planAnswered (planEnded (read (begun true) s .field) (read (begun true) s .plan)) (cleanPlan (read (begun true) s .plan)) ≡ said (fieldsGood true (fieldsOf s))
     go (inl b) =
         let j : judged true start 0 (fieldsOf s) ≡ Refused (refusal (b .number) (b .place)) = b .is in
-        refused (refusal (b .number) (b .place)) (read (begun true) s .plan) (b .refuses (read (begun true) s .plan .count)) ∙ rw j
+        refused (refusal (b .number) (b .place)) (cleanPlan (read (begun true) s .plan)) (b .refuses (read (begun true) s .plan .count)) ∙ rw j
     go (inr b) = answer _ refl
       where
         t : Through true 0 0 false defaultCores [] [] (fieldsOf s) (read (begun true) s)
@@ -155,22 +205,30 @@ plan-as-said s lent = go (start-read true s lent)
         checked : someTask (fieldsOf s) ≡ Accepted → checkedPlan (recordIn (fieldsOf s)) ≡ cond (shape (coresIn (fieldsOf s)) (length (tasksIn (fieldsOf s))) (taskOf (recordIn (fieldsOf s))) (pieceOf (recordIn (fieldsOf s))) (length (piecesIn (fieldsOf s)))) Accepted (Refused NoPlanShape)
         checked h = table-checked (recordIn (fieldsOf s)) (table-good true (fieldsOf s) j (some-task (fieldsOf s) h))
 
+        -- a record that has the shape has room for its tasks and pieces
+        clean : shapeGood (fieldsOf s) (recordIn (fieldsOf s)) ≡ Accepted → cleanPlan (recordIn (fieldsOf s)) ≡ recordIn (fieldsOf s)
+        clean h = record-clean (coresIn (fieldsOf s)) (tasksIn (fieldsOf s)) (piecesIn (fieldsOf s)) (tasks-few true (fieldsOf s) j) (few (decLt 128 (length (piecesIn (fieldsOf s)))))
+          where
+            few : Dec (128 < length (piecesIn (fieldsOf s))) → length (piecesIn (fieldsOf s)) ≤ 128
+            few (yes l) = accepted-not (sym (spoilt-shape (fieldsOf s) (recordIn (fieldsOf s)) refl (inr (inr (omega arith)))) ∙ h)
+            few (no l) = omega arith
+
         -- the reader is spoilt exactly where a kind or the number of pieces is bad
-        shaped : (w : Bool) → t .spoilt ≡ w → someTask (fieldsOf s) ≡ Accepted → planAnswered (planEnded (read (begun true) s .field) (read (begun true) s .plan)) (read (begun true) s .plan) ≡ said Accepted
+        shaped : (w : Bool) → t .spoilt ≡ w → someTask (fieldsOf s) ≡ Accepted → planAnswered (planEnded (read (begun true) s .field) (read (begun true) s .plan)) (cleanPlan (read (begun true) s .plan)) ≡ said Accepted
         shaped true q h =
             let m : read (begun true) s .field .misshapen ≡ true = ap (λ (x : Reader). x .field .misshapen) (t .is) ∙ q in
             let a : planEnded (read (begun true) s .field) (read (begun true) s .plan) ≡ Refused NoPlanShape = left (ends ∙ h) ∙ rw m in
-            ap (λ (x : Answer). planAnswered x (read (begun true) s .plan)) a ∙ rw (spoilt-shape (fieldsOf s) (recordIn (fieldsOf s)) refl (t .spoils q))
+            ap (λ (x : Answer). planAnswered x (cleanPlan (read (begun true) s .plan))) a ∙ rw (spoilt-shape (fieldsOf s) (recordIn (fieldsOf s)) refl (t .spoils q))
         shaped false q h =
             let m : read (begun true) s .field .misshapen ≡ false = ap (λ (x : Reader). x .field .misshapen) (t .is) ∙ q in
             let z : t .taken ≡ piecesIn (fieldsOf s) = t .plain q .1 .0 in
             let p : read (begun true) s .plan ≡ recordIn (fieldsOf s) = ap (λ (x : Reader). x .plan) (t .is) ∙ rw (z, cores-is (fieldsOf s)) in
             let a : planEnded (read (begun true) s .field) (read (begun true) s .plan) ≡ shapeGood (fieldsOf s) (recordIn (fieldsOf s)) = left (ends ∙ h) ∙ rw (m, p) (checked h ∙ rw (t .plain q .1 .1)) in
-            ap (λ (x : Answer). planAnswered x (read (begun true) s .plan)) a ∙ rw p
+            ap (λ (x : Answer). planAnswered x (cleanPlan (read (begun true) s .plan))) a ∙ ap (λ (x : Plan). planAnswered (shapeGood (fieldsOf s) (recordIn (fieldsOf s))) (cleanPlan x)) p ∙ plan-clean (shapeGood (fieldsOf s) (recordIn (fieldsOf s))) (recordIn (fieldsOf s)) clean
 
         fields-are : (a : Answer) → someTask (fieldsOf s) ≡ a → fieldsGood true (fieldsOf s) ≡ a
         fields-are a q = rw j q
 
-        answer : (a : Answer) → someTask (fieldsOf s) ≡ a → planAnswered (planEnded (read (begun true) s .field) (read (begun true) s .plan)) (read (begun true) s .plan) ≡ said (fieldsGood true (fieldsOf s))
+        answer : (a : Answer) → someTask (fieldsOf s) ≡ a → planAnswered (planEnded (read (begun true) s .field) (read (begun true) s .plan)) (cleanPlan (read (begun true) s .plan)) ≡ said (fieldsGood true (fieldsOf s))
         answer Accepted q = shaped _ refl q ∙ ap said (sym (fields-are _ q))
-        answer (Refused x) q = refused x (read (begun true) s .plan) (ends ∙ q) ∙ ap said (sym (fields-are _ q))
+        answer (Refused x) q = refused x (cleanPlan (read (begun true) s .plan)) (ends ∙ q) ∙ ap said (sym (fields-are _ q))

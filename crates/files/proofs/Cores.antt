@@ -10,9 +10,9 @@ use lib.ListN.{length, getD, take}
 use lib.Seq.{getD-take}
 use borrow.Author.Tests.{eq-eqb, ne-eqb}
 use Rattle.tasks.proofs.Answers.{accepted-not}
-use Rattle.tasks.specs.Tables.{noTask, andThen}
+use Rattle.tasks.specs.Tables.{noTask}
 use Rattle.tasks.specs.declared.Answer.{Answer}
-use Rattle.tasks.specs.declared.Answer.the-variants.{Accepted, Refused}
+use Rattle.tasks.specs.declared.Answer.the-variants.{Accepted}
 use Rattle.files.specs.declared.ReadPlan.{ReadPlan}
 use Rattle.files.specs.declared.ReadTable.{ReadTable}
 use Rattle.files.specs.Files.{tableRead, planRead}
@@ -21,14 +21,9 @@ use Rattle.files.specs.Rules.{BodyGood}
 use Rattle.files.proofs.Exactly.{Exactly}
 use Rattle.files.proofs.GoodFields.{whole-field}
 use Rattle.files.proofs.AsSaid.{Fits, some-task, table-as-said, plan-as-said}
-use Rattle.files.proofs.FileAnswers.{table-answer, plan-answer}
+use Rattle.files.proofs.FileAnswers.{both-accepted, table-answer, plan-answer}
 
 -- ---- what is accepted
-
--- what two tests accept each accepts
-pub both-accepted : (a b : Answer) → andThen a b ≡ Accepted → (a ≡ Accepted) × (b ≡ Accepted)
-both-accepted Accepted b h = (refl, h)
-both-accepted (Refused x) b h = accepted-not h
 
 -- the fields are accepted exactly when all are good and one is a task
 pub fields-accepted : (o : Bool) (fs : List (List ℕ)) → Exactly (fieldsGood o fs ≡ Accepted) ((judged o start 0 fs ≡ Accepted) × (1 ≤ length (tasksIn fs)))

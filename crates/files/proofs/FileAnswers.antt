@@ -27,6 +27,11 @@ use Rattle.files.proofs.Filled.{no-length}
 use Rattle.files.proofs.Telling.{same-refusal}
 use Rattle.files.proofs.AsSaid.{Fits, table-as-said, plan-as-said}
 
+-- what two tests accept each accepts
+pub both-accepted : (a b : Answer) → andThen a b ≡ Accepted → (a ≡ Accepted) × (b ≡ Accepted)
+both-accepted Accepted b h = (refl, h)
+both-accepted (Refused x) b h = accepted-not h
+
 -- a table file's answer is the one it was answered with
 pub table-has : (a : Answer) (p : Plan) → tableAnswered a p .answer ≡ a
 table-has Accepted p = refl

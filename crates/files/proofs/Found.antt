@@ -12,7 +12,7 @@ use borrow.Author.Tests.{leb-true, ltb-false, eqb-true, eq-eqb, ne-eqb, not-fals
 use Rattle.tasks.proofs.Bools.{clash}
 use Rattle.tasks.specs.Tables.{coresFit, valuesFit}
 use Rattle.files.specs.Grammar.{number2, lengthFor, tagOf, taskOfField, valuesFault}
-use Rattle.files.specs.Fields.{tag, tagFits, values, verdict}
+use Rattle.files.specs.Fields.{tag, tagFits, verdict}
 use Rattle.files.specs.declared.Field.{Field}
 
 -- ---- the values
@@ -57,7 +57,6 @@ pub record Found (f : Field) : Type 0 where
   pub fits : tagFits f ≡ true
   pub size : number2 (f .bytes) 1 ≡ lengthFor (tag f)
   pub whole : 3 + lengthFor (tag f) ≤ f .count
-  pub values : values f ≡ 0
 
 -- a field that is refused with nothing has passed every test
 pub good-found : (f : Field) (n : ℕ) → verdict f n ≡ 0 → Found f
@@ -68,7 +67,7 @@ good-found f n h =
     let c = not-bad (eqb (tag f) 2 && leb 64 n) 6 _ (omega arith) (b .1) in
     let d = not-bad (not (eqb (number2 (f .bytes) 1) (lengthFor (tag f)))) 3 _ (omega arith) (c .1) in
     let e = not-bad (ltb (f .count) (3 + lengthFor (tag f))) 1 _ (omega arith) (d .1) in
-    record { fits = not-false _ (b .0); size = eqb-true _ _ (not-false _ (d .0)); whole = ltb-false _ _ (e .0); values = e .1 }
+    record { fits = not-false _ (b .0); size = eqb-true _ _ (not-false _ (d .0)); whole = ltb-false _ _ (e .0) }
 
 -- a core count at the start, a task before any piece, or a piece in a plan file
 pub tag-cases : (f : Field) → tagFits f ≡ true → ((tag f ≡ 1) × (f .place ≡ 0)) ⊎ (((tag f ≡ 2) × (f .place ≤ f .end)) ⊎ ((tag f ≡ 3) × (f .pieces ≡ true)))

@@ -1,23 +1,23 @@
 -- Good fields name a good table: a core count of 1 to 16, at most 64 tasks, and each task's values in range.
 use mathlib.Core.Path.{_≡_, refl, sym, _∙_}
-use mathlib.Core.Bool.{Bool, true}
+use mathlib.Core.Bool.{Bool, true, false}
 use mathlib.Core.List.{List, [], _∷_}
 use Prim.Native.Nat.{ℕ, zero, suc, _+_, _≤_, _<_}
 use native.Mathlib.Decide.{ℕ-discrete}
 use native.Mathlib.Omega.{arith}
 use lib.ListN.{length, getD}
 use borrow.Author.Tests.{eq-eqb, ne-eqb, le-leb}
-use Rattle.tasks.proofs.Bools.{both-make}
+use Rattle.tasks.proofs.Bools.{clash, both-make}
 use Rattle.tasks.proofs.Tables.{all-good}
 use Rattle.tasks.specs.Tables.{noTask, coresFit, valuesFit, checkedTasks}
 use Rattle.tasks.specs.declared.Answer.the-variants.{Accepted}
 use Rattle.tasks.specs.declared.Task.{Task}
 use Rattle.plans.specs.Pieces.{taskOf}
-use Rattle.files.specs.Grammar.{Before, tagOf, taskOfField, start, behind, valuesFault, fault, judged, tasksIn, coresIn, recordIn}
+use Rattle.files.specs.Grammar.{Before, tagOf, taskOfField, start, behind, inPlace, valuesFault, fault, judged, tasksIn, piecesIn, kindsFit, coresIn, recordIn}
 use Rattle.files.specs.Rules.{BodyGood}
 use Rattle.files.proofs.Filled.{filled-get}
 use Rattle.files.proofs.Found.{cores-good, values-good}
-use Rattle.files.proofs.Named.{tasks-more, tasks-other}
+use Rattle.files.proofs.Named.{tasks-more, tasks-other, pieces-other, kinds-other}
 use Rattle.files.proofs.Faults.{Breaks, fault-told, body-fault}
 use Rattle.files.proofs.FirstBad.{judged-good, first-good}
 
@@ -81,3 +81,25 @@ pub table-good : (o : Bool) (fs : List (List ℕ)) → judged o start 0 fs ≡ A
 table-good o fs h some =
     let g : TasksGood 0 (tasksIn fs) = tasks-good o fs start 0 (omega arith) h in
     all-good (coresIn fs) (length (tasksIn fs)) (taskOf (recordIn fs)) (cores-fit o fs h) (both-make (le-leb 1 (length (tasksIn fs)) some) (le-leb (length (tasksIn fs)) 64 (omega (arith, g .room)))) (λ i l. rw (filled-get 64 noTask (tasksIn fs) i) (g .values i l))
+
+-- there are at most 64 of them
+pub tasks-few : (o : Bool) (fs : List (List ℕ)) → judged o start 0 fs ≡ Accepted → length (tasksIn fs) ≤ 64
+tasks-few o fs h = omega (arith, tasks-good o fs start 0 (omega arith) h .room)
+
+-- in a table file a piece is out of its order
+not-piece : (b : Before) (f : List ℕ) → tagOf f ≡ 3 → inPlace false b f ≡ false
+unfolding inPlace
+not-piece b f t = rw t
+
+-- a table file of good fields has no piece
+pub no-piece : (fs : List (List ℕ)) (b : Before) (j : ℕ) → judged false b j fs ≡ Accepted → (piecesIn fs ≡ []) × (kindsFit fs ≡ true)
+unfolding piecesIn kindsFit
+no-piece [] b j h = (refl, refl)
+no-piece (f ∷ fs) b j h = go (ℕ-discrete (tagOf f) 3) (no-piece fs (behind b f) (j + length f))
+  where
+    good : fault false b f ≡ 0
+    good = first-good false f fs b j h
+
+    go : Dec (tagOf f ≡ 3) → (judged false (behind b f) (j + length f) fs ≡ Accepted → (piecesIn fs ≡ []) × (kindsFit fs ≡ true)) → (piecesIn (f ∷ fs) ≡ []) × (kindsFit (f ∷ fs) ≡ true)
+    go (yes t) ih = clash (whole-field false b f good .header .tag .order) (not-piece b f t)
+    go (no t) ih = rw (pieces-other f fs t, kinds-other f fs t) (ih (sym (judged-good false b j f fs good) ∙ h))

@@ -1,6 +1,7 @@
 pub mod Fields
 pub mod Found
 pub mod Filled
+pub mod Clean
 pub mod Holding
 pub mod OneField
 pub mod Named
@@ -13,6 +14,7 @@ pub mod Turns
 pub mod FieldsRead
 pub mod AsSaid
 pub mod FileAnswers
+pub mod HandMade
 pub mod Refused
 pub mod Cores
 pub mod Shape

@@ -22,8 +22,7 @@ use Rattle.files.proofs.Exactly.{Exactly, chain}
 use Rattle.files.proofs.Telling.{refusal-number, same-refusal, fault-most, says-shape}
 use Rattle.files.proofs.FirstBad.{positive, judged-good, judged-bad}
 use Rattle.files.proofs.AsSaid.{Fits}
-use Rattle.files.proofs.FileAnswers.{plan-answer}
-use Rattle.files.proofs.Cores.{both-accepted}
+use Rattle.files.proofs.FileAnswers.{both-accepted, plan-answer}
 
 -- a bad field is refused with 1 to 6
 judged-number : (o : Bool) (fs : List (List ℕ)) (b : Before) (j : ℕ) (x : Refusal) → judged o b j fs ≡ Refused x → number x < 7

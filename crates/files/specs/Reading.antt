@@ -1,11 +1,14 @@
 -- Reading: a file is read field after field from its start, and where it ends it is answered and its record is given.
-use mathlib.Core.Bool.{Bool, false, not, cond}
+use mathlib.Core.Bool.{Bool, false, not, _||_, cond}
 use Prim.Native.Nat.{ℕ}
 use lib.Dec.{ltb, eqb}
-use Rattle.tasks.specs.Tables.{andThen}
+use Rattle.tasks.specs.Below.{padded}
+use Rattle.tasks.specs.Places.{placeAt}
+use Rattle.tasks.specs.Tables.{noTask, checkedTasks, andThen}
 use Rattle.tasks.specs.declared.Answer.{Answer}
 use Rattle.tasks.specs.declared.Answer.the-variants.{Accepted, Refused}
-use Rattle.tasks.specs.declared.Refusal.the-variants.{NoPlanShape}
+use Rattle.tasks.specs.declared.Refusal.the-variants.{WrongTag, NoPlanShape}
+use Rattle.plans.specs.Pieces.{noPiece, taskOf, pieceOf}
 use Rattle.plans.specs.Shape.{checkedPlan}
 use Rattle.plans.specs.declared.Plan.{Plan}
 use Rattle.files.specs.Grammar.{defaultCores, refusal, emptyPlan, tableAnswered, planAnswered}
@@ -41,13 +44,21 @@ fieldsAnswer f = cond (eqb (f .bad) 0) Accepted (Refused (refusal (f .bad) (f .p
 abbrev pub endedAfter : Field → ℕ → Answer
 endedAfter f n = fieldsAnswer (ended f n)
 
+-- what was read is judged as a record. Pieces stand only in plan files: a plan's reader, or one with pieces in it, is no table's, and is refused at the end of the tasks
+unfoldable pub tableEnded : Field → Plan → Answer
+tableEnded f p = andThen (endedAfter f (p .count)) (cond (f .pieces || ltb 0 (p .placed)) (Refused (WrongTag (placeAt (f .end)))) (checkedTasks (p .cores) (p .count) (taskOf p)))
+
 -- 8 comes last: what was read is judged as a record, and of good fields only the shape is left to refuse
 unfoldable pub planEnded : Field → Plan → Answer
 planEnded f p = andThen (endedAfter f (p .count)) (cond (f .misshapen) (Refused NoPlanShape) (checkedPlan p))
 
+-- in every record we make the entries past its counts are 0
+abbrev pub cleanPlan : Plan → Plan
+cleanPlan p = record { cores = p .cores; count = p .count; tasks = padded 64 (p .count) noTask (taskOf p); placed = p .placed; pieces = padded 128 (p .placed) noPiece (pieceOf p) }
+
 -- the answer for a table file that ends here, and for a plan file
 unfoldable pub tableClosed : Reader → ReadTable
-tableClosed r = tableAnswered (endedAfter (r .field) (r .plan .count)) (r .plan)
+tableClosed r = tableAnswered (tableEnded (r .field) (r .plan)) (cleanPlan (r .plan))
 
 unfoldable pub planClosed : Reader → ReadPlan
-planClosed r = planAnswered (planEnded (r .field) (r .plan)) (r .plan)
+planClosed r = planAnswered (planEnded (r .field) (r .plan)) (cleanPlan (r .plan))

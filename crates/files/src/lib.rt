@@ -2,11 +2,13 @@
 ghost use mathlib.Core.Path.{_≡_};
 ghost use mathlib.Core.Bool.{true, false};
 ghost use Prim.Native.Nat.{_+_, _≤_, _<_};
-ghost use lib.ListN.{replicate};
+ghost use lib.ListN.{getD, replicate};
+ghost use Rattle.tasks.specs.Below.{padded};
 ghost use Rattle.tasks.specs.Tables.{noTask};
+ghost use Rattle.plans.specs.Pieces.{noPiece};
 ghost use Rattle.files.specs.Grammar.{number2, number4, lengthFor, kindOf, refusal, emptyPlan};
 ghost use Rattle.files.specs.Fields.{tag, taskIn, pieceIn, values, verdict, hold, nextField, added, read};
-ghost use Rattle.files.specs.Reading.{ended, begun, tableClosed, planEnded, planClosed};
+ghost use Rattle.files.specs.Reading.{ended, begun, tableEnded, tableClosed, planEnded, planClosed};
 ghost use Rattle.files.specs.Files.{tableRead, planRead};
 use plans::Kind;
 use plans::Piece;
@@ -297,18 +299,24 @@ fn ended(mut f: Field, tasks: usize) -> Field
 fn empty_plan(cores: usize) -> Plan
     ensures { λ r. ⌜ r ≡ emptyPlan cores ⌝ }
 {
-    let none = Piece {
-        task: TaskNo(0),
-        core: CoreNo(0),
-        kind: Kind::Whole,
-        cost: 0,
-    };
     Plan {
         cores,
         count: 0,
         tasks: no_tasks(),
         placed: 0,
-        pieces: [none; 128],
+        pieces: [no_piece(); 128],
+    }
+}
+
+// The piece of all zeros.
+fn no_piece() -> Piece
+    ensures { λ r. ⌜ r ≡ noPiece ⌝ }
+{
+    Piece {
+        task: TaskNo(0),
+        core: CoreNo(0),
+        kind: Kind::Whole,
+        cost: 0,
     }
 }
 
@@ -355,15 +363,58 @@ pub fn start_plan() -> Reader
     begun(true)
 }
 
-// Ends the reading of a table file.
+// What the end of a table file is answered with: 1, 6 or, for a reader with pieces, 2; then the check of the record.
+fn table_ended(f: Field, plan: Plan) -> Answer
+    ensures { λ r. ⌜ r ≡ tableEnded f plan ⌝ }
+{
+    let last = ended(f, plan.count);
+    if last.bad != 0 {
+        return Answer::Refused(refusal(last.bad, last.place));
+    }
+    if f.pieces | (0 < plan.placed) {
+        return Answer::Refused(Refusal::WrongTag(Place(f.end)));
+    }
+    let held = plan.tasks;
+    tasks::check_tasks(plan.cores, plan.count, held)
+}
+
+// The first `count` of these tasks, and 0 past them.
+fn first_tasks(held: [Task; 64], count: usize) -> [Task; 64]
+    ensures { λ r. ⌜ r ≡ padded 64 count noTask (λ i. getD held i noTask) ⌝ }
+{
+    let n = tasks::smaller(count, 64);
+    let mut first = no_tasks();
+    let mut i = 0;
+    while i < n {
+        first[i] = held[i];
+        i += 1;
+    }
+    first
+}
+
+// The first `placed` of these pieces, and 0 past them.
+fn first_pieces(held: [Piece; 128], placed: usize) -> [Piece; 128]
+    ensures { λ r. ⌜ r ≡ padded 128 placed noPiece (λ j. getD held j noPiece) ⌝ }
+{
+    let n = tasks::smaller(placed, 128);
+    let mut first = [no_piece(); 128];
+    let mut j = 0;
+    while j < n {
+        first[j] = held[j];
+        j += 1;
+    }
+    first
+}
+
+// Ends the reading of a table file. Any reader may be given; the table handed out is 0 past its count.
 pub fn close_table(reader: Reader) -> ReadTable
     ensures { λ r. ⌜ r ≡ tableClosed reader ⌝ }
 {
     let plan = reader.plan;
-    let last = ended(reader.field, plan.count);
-    if last.bad != 0 {
+    let answer = table_ended(reader.field, plan);
+    if let Answer::Refused(_) = answer {
         return ReadTable {
-            answer: Answer::Refused(refusal(last.bad, last.place)),
+            answer,
             table: Table {
                 cores: 0,
                 count: 0,
@@ -371,13 +422,13 @@ pub fn close_table(reader: Reader) -> ReadTable
             },
         };
     }
-    let tasks = plan.tasks;
+    let held = plan.tasks;
     ReadTable {
-        answer: Answer::Accepted,
+        answer,
         table: Table {
             cores: plan.cores,
             count: plan.count,
-            tasks,
+            tasks: first_tasks(held, plan.count),
         },
     }
 }
@@ -396,7 +447,7 @@ fn plan_ended(f: Field, plan: Plan) -> Answer
     plans::check_plan(plan)
 }
 
-// Ends the reading of a plan file.
+// Ends the reading of a plan file. Any reader may be given; the plan handed out is 0 past its counts.
 pub fn close_plan(reader: Reader) -> ReadPlan
     ensures { λ r. ⌜ r ≡ planClosed reader ⌝ }
 {
@@ -408,7 +459,18 @@ pub fn close_plan(reader: Reader) -> ReadPlan
             plan: empty_plan(0),
         };
     }
-    ReadPlan { answer, plan }
+    let tasks_held = plan.tasks;
+    let pieces_held = plan.pieces;
+    ReadPlan {
+        answer,
+        plan: Plan {
+            cores: plan.cores,
+            count: plan.count,
+            tasks: first_tasks(tasks_held, plan.count),
+            placed: plan.placed,
+            pieces: first_pieces(pieces_held, plan.placed),
+        },
+    }
 }
 
 // ---- A whole file.

@@ -13,8 +13,9 @@ use lib.Seq.{length-take-le, take-suc-set, getD-set-same, getD-set-other}
 use borrow.Author.Tests.{eq-eqb}
 use Rattle.tasks.specs.Below.{row}
 use Rattle.tasks.proofs.Below.{row-same}
+use Rattle.tasks.proofs.Tabulate.{replicate-at}
 use Rattle.tasks.proofs.Bools.{clash}
-use Rattle.tasks.specs.Tables.{noTask, coresFit, valuesFit}
+use Rattle.tasks.specs.Tables.{noTask}
 use Rattle.tasks.specs.declared.Task.{Task}
 use Rattle.plans.specs.Pieces.{noPiece, taskOf, pieceOf, CleanPlan}
 use Rattle.plans.specs.declared.Piece.{Piece}
@@ -27,8 +28,8 @@ use Rattle.files.specs.Fields.{tag, taskIn, pieceIn, verdict, hold, fieldAt, pi
 use Rattle.files.specs.declared.Field.{Field}
 use Rattle.files.specs.declared.Reader.{Reader}
 use Rattle.files.proofs.Fields.{reader, length-most, next-other, cores-added, task-added, read-refused, hold-is, step-good, settled-bad, good-room}
-use Rattle.files.proofs.Filled.{no-length, cleared}
-use Rattle.files.proofs.Found.{Found, good-found, tag-cases, cores-good, values-good}
+use Rattle.files.proofs.Filled.{no-length}
+use Rattle.files.proofs.Found.{Found, good-found, tag-cases}
 use Rattle.trips.proofs.Taken.{piece-room, piece-kind, waits-short, core-text, task-text, piece-text}
 
 -- the fields of what was read: the core count if it was named, the tasks, the pieces
@@ -38,10 +39,7 @@ told named p = cond named (coreField (p .cores)) [] ++ (row (p .count) (λ i. ta
 -- what was read of a file s, its next field being f, if no piece is against the shape by itself
 pub record Content (o named : Bool) (s : List ℕ) (f : Field) (p : Plan) : Type 0 where
   pub text : s ≡ told named p ++ take (f .count) (f .bytes)
-  pub cores : coresFit (p .cores) ≡ true
   pub default : named ≡ false → p .cores ≡ 4
-  pub count : p .count ≤ 64
-  pub values : (i : ℕ) → i < p .count → valuesFit (taskOf p i) ≡ true
   pub tasks : length (p .tasks) ≡ 64
   pub placed : p .placed ≤ 128
   pub pieces : length (p .pieces) ≡ 128
@@ -74,10 +72,7 @@ hold-held o s f p b h l k = rw (hold-is f b l) (record {
   named = h .named;
   good = λ m. let c : Content o (h .named) s f p = h .good m in record {
     text = ap (λ (x : List ℕ). x ++ (b ∷ [])) (c .text) ∙ append-assoc (told (h .named) p) (take (f .count) (f .bytes)) (b ∷ []) ∙ ap (λ (x : List ℕ). told (h .named) p ++ x) (sym (rw add-one (take-suc-set (f .bytes) (f .count) b (omega (arith, h .size)))));
-    cores = c .cores;
     default = c .default;
-    count = c .count;
-    values = c .values;
     tasks = c .tasks;
     placed = c .placed;
     pieces = c .pieces;
@@ -115,7 +110,7 @@ unfolding told
 told-piece named p z h = rw (row-set pieceField (p .pieces) (p .placed) z noPiece h) (simp append-assoc)
 
 pub zero-byte : (i : ℕ) → getD (replicate 15 0) i 0 < 256
-zero-byte i = rw (cleared {A = ℕ} 15 0 i) (omega arith)
+zero-byte i = rw (replicate-at {A = ℕ} 15 i 0) (omega arith)
 
 module _ (o : Bool) (s : List ℕ) (g : Field) (p : Plan) (h : Held o s g p) (d : Found g) (e : g .count ≡ 3 + lengthFor (tag g)) (most : length s ≤ 18446744073709551615) where
   next-place : further (g .place) (g .count) ≡ length s
@@ -136,10 +131,7 @@ module _ (o : Bool) (s : List ℕ) (g : Field) (p : Plan) (h : Held o s g p) (d 
           let empty : told (h .named) p ≡ [] = no-length _ (omega (arith, h .whole, h .size, ap length (c .text), length-append (told (h .named) p) (take (g .count) (g .bytes)), length-take-le (g .count) (g .bytes) (omega (arith, h .size)))) in
           record {
             text = c .text ∙ rw (empty, field) (sym (append-nil _ ∙ told-cores (h .named) p (getD (g .bytes) 3 0) empty));
-            cores = cores-good (g .bytes) t (d .values);
             default = λ q. clash refl q;
-            count = c .count;
-            values = c .values;
             tasks = c .tasks;
             placed = c .placed;
             pieces = c .pieces;
@@ -158,10 +150,7 @@ module _ (o : Bool) (s : List ℕ) (g : Field) (p : Plan) (h : Held o s g p) (d 
           let field : take (g .count) (g .bytes) ≡ taskField (taskIn g) = ap (λ (k : ℕ). take k (g .bytes)) whole ∙ task-text g (h .size) (h .small) t (d .size) in
           record {
             text = c .text ∙ rw field (sym (append-nil _ ∙ told-task (h .named) p (taskIn g) (c .order z) (omega (arith, c .tasks))));
-            cores = c .cores;
             default = c .default;
-            count = omega arith;
-            values = λ i l. value c i l (ℕ-discrete i (p .count));
             tasks = length-set (p .tasks) (p .count) (taskIn g) ∙ c .tasks;
             placed = c .placed;
             pieces = c .pieces;
@@ -169,10 +158,6 @@ module _ (o : Bool) (s : List ℕ) (g : Field) (p : Plan) (h : Held o s g p) (d 
             alone = c .alone;
             order = λ l. c .order z;
           }
-        where
-          value : Content o (h .named) s g p → (i : ℕ) → i < p .count + 1 → Dec (i ≡ p .count) → valuesFit (taskOf (withTask p (taskIn g)) i) ≡ true
-          value c i l (yes q) = rw (q, getD-set-same (p .tasks) (p .count) (taskIn g) noTask (omega (arith, c .tasks))) (values-good (g .bytes) t (d .values))
-          value c i l (no q) = rw (getD-set-other (p .tasks) (p .count) i (taskIn g) noTask q) (c .values i (omega arith))
 
   taken-piece : tag g ≡ 3 → g .pieces ≡ true → pieceTaken g (p .placed) ≡ true → Held o s (fieldAt (g .pieces) (length s) (g .end) (g .misshapen)) (withPiece p (pieceIn g))
   taken-piece t z k = next-held (g .end) (g .misshapen) (h .named) _ (omega (arith, h .ends, h .whole)) (h .plain) content
@@ -185,10 +170,7 @@ module _ (o : Bool) (s : List ℕ) (g : Field) (p : Plan) (h : Held o s g p) (d 
           let field : take (g .count) (g .bytes) ≡ pieceField (pieceIn g) = ap (λ (i : ℕ). take i (g .bytes)) whole ∙ piece-text g (h .size) (h .small) t (d .size) (piece-kind g (p .placed) k) in
           record {
             text = c .text ∙ rw field (sym (append-nil _ ∙ told-piece (h .named) p (pieceIn g) (omega (arith, c .pieces))));
-            cores = c .cores;
             default = c .default;
-            count = c .count;
-            values = c .values;
             tasks = c .tasks;
             placed = omega arith;
             pieces = length-set (p .pieces) (p .placed) (pieceIn g) ∙ c .pieces;

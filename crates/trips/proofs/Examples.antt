@@ -3,8 +3,8 @@ use mathlib.Core.Path.{_≡_, refl}
 use mathlib.Core.List.{List, [], _∷_, _++_}
 use Prim.Native.Nat.{ℕ}
 use lib.ListN.{replicate}
-use Rattle.tasks.specs.Below.{row}
-use Rattle.tasks.specs.Tables.{noTask}
+use Rattle.tasks.specs.Below.{any, padded, row, tabulate}
+use Rattle.tasks.specs.Tables.{noTask, checkedTasks}
 use Rattle.tasks.specs.declared.Answer.the-variants.{Accepted, Refused}
 use Rattle.tasks.specs.declared.Refusal.the-variants.{CutShort, WrongTag, WrongLength, CoresAt, ValuesAt, TasksAt, NoPlanShape}
 use Rattle.tasks.specs.declared.Table.{Table}
@@ -12,7 +12,7 @@ use Rattle.writing.specs.Fields.{tableBytes, tasksBytes, coreField, taskField}
 use Rattle.tasks.specs.Places.{placeAt, further}
 use Rattle.files.specs.Grammar.{refusal, valuesFault}
 use Rattle.files.specs.Fields.{read, step, verdict, hold, tagFits, pieceTaken, nextField, added}
-use Rattle.files.specs.Reading.{ended, tableClosed, planEnded, planClosed}
+use Rattle.files.specs.Reading.{ended, tableEnded, tableClosed, planEnded, planClosed}
 use Rattle.files.specs.Files.{tableRead, planRead}
 
 abbrev example : List ℕ
@@ -46,5 +46,5 @@ pub record SmallFiles : Type 0 where
   pub long-period : tableRead (tasks 1 1000001) .answer ≡ Refused (ValuesAt (placeAt 0))
 
 pub small-files : SmallFiles
-unfolding tableBytes tasksBytes coreField taskField row tableRead tableClosed planRead planClosed planEnded read step verdict hold tagFits valuesFault pieceTaken nextField added further ended refusal
+unfolding tableBytes tasksBytes coreField taskField row tableRead tableClosed tableEnded checkedTasks any padded tabulate planRead planClosed planEnded read step verdict hold tagFits valuesFault pieceTaken nextField added further ended refusal
 small-files = record { written = refl; read-back = refl; no-task = refl; short-tail = refl; second-count = refl; wrong-length = refl; many-cores = refl; most-tasks = refl; many-tasks = refl; table-piece = refl; only-piece = refl; late-task = refl; bad-kind = refl; long-period = refl }

@@ -8,14 +8,11 @@ use native.Mathlib.Omega.{arith}
 use lib.Arith.{le-zero}
 use lib.Dec.{ltb, eqb}
 use lib.ListN.{length, getD, take}
-use borrow.Author.Tests.{ltb-false, eqb-false, eq-eqb, ne-eqb, le-leb}
+use borrow.Author.Tests.{ltb-false, eqb-false, eq-eqb, ne-eqb}
 use Rattle.tasks.specs.Below.{row}
-use Rattle.tasks.proofs.Bools.{both-make}
-use Rattle.tasks.proofs.Tables.{all-good}
-use Rattle.tasks.specs.Tables.{noTask, checkedTable, checkedTasks}
-use Rattle.tasks.specs.declared.Answer.{Answer}
+use Rattle.tasks.proofs.Tabulate.{replicate-at}
+use Rattle.tasks.specs.Tables.{noTask, checkedTable}
 use Rattle.tasks.specs.declared.Answer.the-variants.{Accepted, Refused}
-use Rattle.tasks.specs.declared.Refusal.the-variants.{NoPlanShape}
 use Rattle.tasks.specs.declared.Table.{Table}
 use Rattle.tasks.proofs.Answers.{accepted-not}
 use Rattle.plans.specs.Pieces.{noPiece, taskOf}
@@ -24,10 +21,11 @@ use Rattle.plans.specs.declared.Plan.{Plan}
 use Rattle.writing.specs.Fields.{coreField, taskField, tasksBytes, tableBytes, planBytes}
 use Rattle.files.specs.Fields.{fieldAt, refusedField, read}
 use Rattle.files.specs.Grammar.{defaultCores, emptyPlan, refusal}
-use Rattle.files.specs.Reading.{begun, movedTo, ended, fieldsAnswer, endedAfter, planEnded, tableClosed, planClosed}
+use Rattle.files.specs.Reading.{begun, movedTo, ended, fieldsAnswer, endedAfter, tableEnded, planEnded, cleanPlan, tableClosed, planClosed}
 use Rattle.files.specs.Files.{tableRead, planRead}
 use Rattle.files.specs.declared.Field.{Field}
-use Rattle.files.proofs.Filled.{cleared}
+use Rattle.files.proofs.Clean.{clean-plan-is}
+use Rattle.files.proofs.HandMade.{table-passed, plan-passed}
 use Rattle.files.proofs.FirstBad.{positive}
 use Rattle.files.proofs.FileAnswers.{table-has, plan-has}
 use Rattle.trips.proofs.Accepted.{told, Content, Held, read-held, zero-byte}
@@ -50,14 +48,11 @@ begun-held o = record {
   named = false;
   good = λ m. record {
     text = refl;
-    cores = refl;
     default = λ q. refl;
-    count = omega arith;
-    values = λ i l. absurd (omega arith);
     tasks = refl;
     placed = omega arith;
     pieces = refl;
-    clean = record { tasks = λ i l. cleared 64 noTask i; pieces = λ j l. cleared 128 noPiece j };
+    clean = record { tasks = λ i l. replicate-at 64 i noTask; pieces = λ j l. replicate-at 128 j noPiece };
     alone = λ q. refl;
     order = λ q. refl;
   };
@@ -145,59 +140,55 @@ module _ (o : Bool) (s : List ℕ) (lent : Slice s) (e : Ended (read (begun o) s
     text : s ≡ told (held .named) (read (begun o) s .plan)
     text = content .text ∙ ap (λ (k : ℕ). told (held .named) (read (begun o) s .plan) ++ take k (read (begun o) s .field .bytes)) (e .count) ∙ append-nil _
 
+    -- and past its counts it is 0
+    cleaned : cleanPlan (read (begun o) s .plan) ≡ read (begun o) s .plan
+    cleaned = clean-plan-is (read (begun o) s .plan) (content .clean) (content .tasks) (content .pieces)
+
     again : told true (read (begun o) s .plan) ≡ cond (eqb (getD s 0 0) 1) s (coreField defaultCores ++ s)
     again = told-again s (held .named) (read (begun o) s .plan) (e .some) text (content .default)
 
-    good : checkedTasks (read (begun o) s .plan .cores) (read (begun o) s .plan .count) (taskOf (read (begun o) s .plan)) ≡ Accepted
-    good = all-good _ _ _ (content .cores) (both-make (le-leb 1 _ (e .some)) (le-leb _ 64 (content .count))) (content .values)
-
-plan-ended-says : (f : Field) (p : Plan) → planEnded f p ≡ Accepted → Ended f (p .count) × ((f .misshapen ≡ false) × (checkedPlan p ≡ Accepted))
-unfolding planEnded
-plan-ended-says f p h = fields _ refl
-  where
-    shaped : (b : Bool) → f .misshapen ≡ b → cond b (Refused NoPlanShape) (checkedPlan p) ≡ Accepted → (f .misshapen ≡ false) × (checkedPlan p ≡ Accepted)
-    shaped true e q = accepted-not q
-    shaped false e q = (e, q)
-
-    fields : (a : Answer) → endedAfter f (p .count) ≡ a → Ended f (p .count) × ((f .misshapen ≡ false) × (checkedPlan p ≡ Accepted))
-    fields (Refused x) e = let k : planEnded f p ≡ Refused x = rw e in accepted-not (sym k ∙ h)
-    fields Accepted e = (ended-says f (p .count) e, shaped _ refl (rw e at h))
-
 -- every accepted table file that names its core count is written again byte for byte, any other with the count of 4 before it
 module _ (s : List ℕ) (lent : Slice s) (accepted : tableRead s .answer ≡ Accepted) where
-  table-ended : endedAfter (read (begun false) s .field) (read (begun false) s .plan .count) ≡ Accepted
+  table-ended : tableEnded (read (begun false) s .field) (read (begun false) s .plan) ≡ Accepted
   unfolding tableRead tableClosed
-  table-ended = sym (table-has _ (read (begun false) s .plan)) ∙ accepted
+  table-ended = sym (table-has _ (cleanPlan (read (begun false) s .plan))) ∙ accepted
+
+  table-fields : Ended (read (begun false) s .field) (read (begun false) s .plan .count)
+  table-fields = ended-says _ _ (table-passed _ _ table-ended .0)
 
   table-plain : read (begun false) s .field .misshapen ≡ false
-  table-plain = held false s lent (ended-says _ _ table-ended) .plain refl
+  table-plain = held false s lent table-fields .plain refl
 
   table-is : tableRead s .table ≡ tableOf (read (begun false) s .plan)
   unfolding tableRead tableClosed
-  table-is = rw table-ended
+  table-is = rw table-ended (ap tableOf (cleaned false s lent table-fields table-plain))
 
   pub table-written-again : tableBytes (tableRead s .table) ≡ cond (eqb (getD s 0 0) 1) s (coreField defaultCores ++ s)
-  table-written-again = ap tableBytes table-is ∙ table-told _ (content false s lent (ended-says _ _ table-ended) table-plain .alone refl) ∙ again false s lent (ended-says _ _ table-ended) table-plain
+  table-written-again = ap tableBytes table-is ∙ table-told _ (content false s lent table-fields table-plain .alone refl) ∙ again false s lent table-fields table-plain
 
   -- and its record is a good table
   pub table-is-good : checkedTable (tableRead s .table) ≡ Accepted
-  table-is-good = rw table-is (good false s lent (ended-says _ _ table-ended) table-plain)
+  table-is-good = rw table-is (table-passed _ _ table-ended .1)
 
 -- every accepted plan file that names its core count is written again byte for byte, any other with the count of 4 before it
 module _ (s : List ℕ) (lent : Slice s) (accepted : planRead s .answer ≡ Accepted) where
   plan-ended : planEnded (read (begun true) s .field) (read (begun true) s .plan) ≡ Accepted
   unfolding planRead planClosed
-  plan-ended = sym (plan-has _ (read (begun true) s .plan)) ∙ accepted
+  plan-ended = sym (plan-has _ (cleanPlan (read (begun true) s .plan))) ∙ accepted
+
+  plan-fields : Ended (read (begun true) s .field) (read (begun true) s .plan .count)
+  plan-fields = ended-says _ _ (plan-passed _ _ plan-ended .0)
+
+  plan-plain : read (begun true) s .field .misshapen ≡ false
+  plan-plain = plan-passed _ _ plan-ended .1 .0
 
   plan-is : planRead s .plan ≡ read (begun true) s .plan
   unfolding planRead planClosed
-  plan-is = rw plan-ended
+  plan-is = rw plan-ended (cleaned true s lent plan-fields plan-plain)
 
   pub plan-written-again : planBytes (planRead s .plan) ≡ cond (eqb (getD s 0 0) 1) s (coreField defaultCores ++ s)
-  plan-written-again =
-      let e = plan-ended-says _ _ plan-ended in
-      ap planBytes plan-is ∙ plan-told _ ∙ again true s lent (e .0) (e .1 .0)
+  plan-written-again = ap planBytes plan-is ∙ plan-told _ ∙ again true s lent plan-fields plan-plain
 
   -- and its record is a good plan
   pub plan-is-good : checkedPlan (planRead s .plan) ≡ Accepted
-  plan-is-good = rw plan-is (plan-ended-says _ _ plan-ended .1 .1)
+  plan-is-good = rw plan-is (plan-passed _ _ plan-ended .1 .1)

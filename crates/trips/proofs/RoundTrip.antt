@@ -8,13 +8,13 @@ use native.Mathlib.Omega.{arith}
 use lib.ListN.{length}
 use borrow.Author.Tests.{leb-true, ne-eqb}
 use Rattle.tasks.proofs.Padded.{padded-in, padded-is, padded-more}
-use Rattle.tasks.proofs.Tables.{GoodTable, accepted-good, values-fit, counts-fit}
+use Rattle.tasks.proofs.Tables.{GoodTable, accepted-good, good-accepted, values-fit, counts-fit}
 use Rattle.tasks.specs.Below.{padded, tabulate, row}
-use Rattle.tasks.specs.Tables.{noTask, coresFit, valuesFit, checkedTable, SameTable, CleanTable, taskOf as taskOfTable}
+use Rattle.tasks.specs.Tables.{noTask, coresFit, valuesFit, checkedTasks, checkedTable, SameTable, CleanTable, taskOf as taskOfTable}
 use Rattle.tasks.specs.declared.Answer.the-variants.{Accepted}
 use Rattle.tasks.specs.declared.Task.{Task}
 use Rattle.tasks.specs.declared.Table.{Table}
-use Rattle.plans.specs.Pieces.{noPiece, taskOf, pieceOf, SamePlan, CleanPlan}
+use Rattle.plans.specs.Pieces.{noPiece, taskOf, pieceOf}
 use Rattle.plans.proofs.SamePlans.{shape-same}
 use Rattle.plans.proofs.InShape.{GoodPlan, accepted-plan, tests, plan-accepted}
 use Rattle.plans.specs.Shape.{checkedPlan}
@@ -25,7 +25,8 @@ use Rattle.tasks.specs.Places.{further}
 use Rattle.tasks.proofs.Places.{further-is}
 use Rattle.files.specs.Grammar.{emptyPlan}
 use Rattle.files.specs.Fields.{fieldAt, read}
-use Rattle.files.specs.Reading.{begun, ended, tableClosed, planEnded, planClosed}
+use Rattle.files.specs.Reading.{begun, ended, tableEnded, tableClosed, planEnded, cleanPlan, planClosed}
+use Rattle.files.proofs.Clean.{padded-again}
 use Rattle.files.specs.Files.{tableRead, planRead}
 use Rattle.files.specs.declared.Field.{Field}
 use Rattle.files.specs.declared.Reader.{Reader}
@@ -74,16 +75,18 @@ module _ (o : Bool) (m : ℕ) (ts : ℕ → Task) (pc : ℕ → Piece) where
 abbrev pub cleanTable : Table → Table
 cleanTable t = record { cores = t .cores; count = t .count; tasks = padded 64 (t .count) noTask (taskOfTable t) }
 
-table-closes : (o : Bool) (q m n : ℕ) (ts : ℕ → Task) (pc : ℕ → Piece) → 1 ≤ n → tableClosed (reader (fieldAt o q q false) (planOf m n ts 0 pc)) ≡ record { answer = Accepted; table = record { cores = m; count = n; tasks = padded 64 n noTask ts } }
-unfolding tableClosed ended
-table-closes o q m n ts pc h = rw (ne-eqb n 0 (λ e. omega arith))
+table-closes : (q m n : ℕ) (ts : ℕ → Task) (pc : ℕ → Piece) → GoodTable m n ts → tableClosed (reader (fieldAt false q q false) (planOf m n ts 0 pc)) ≡ record { answer = Accepted; table = record { cores = m; count = n; tasks = padded 64 n noTask ts } }
+unfolding tableClosed tableEnded ended
+table-closes q m n ts pc g =
+    let checked : checkedTasks m n (taskOf (planOf m n ts 0 pc)) ≡ Accepted = good-accepted m n _ (tasks-same m n ts _ (λ i l. sym (padded-in 64 noTask n ts i l (omega (arith, g .tasks .1)))) g) in
+    rw (ne-eqb n 0 (λ e. omega (arith, g .tasks .0)), checked, padded-again 64 noTask n ts)
 
 -- what is written of a good table reads back to the same table
 pub table-reads-back : (t : Table) → checkedTable t ≡ Accepted → tableRead (tableBytes t) ≡ record { answer = Accepted; table = cleanTable t }
 unfolding tableRead tableBytes
 table-reads-back t h =
     let g : GoodTable (t .cores) (t .count) (taskOfTable t) = accepted-good _ _ _ h in
-    ap tableClosed (tasks-read false (t .cores) (taskOfTable t) (λ j. noPiece) (t .count) g) ∙ table-closes _ _ _ _ _ _ (g .tasks .0)
+    ap tableClosed (tasks-read false (t .cores) (taskOfTable t) (λ j. noPiece) (t .count) g) ∙ table-closes _ _ _ _ _ g
 
 pub clean-same : (t : Table) → t .count ≤ 64 → SameTable t (cleanTable t)
 clean-same t h = record { cores = refl; count = refl; tasks = λ i l. sym (padded-in 64 noTask (t .count) (taskOfTable t) i l (omega arith)) }
@@ -92,10 +95,6 @@ pub clean-is : (t : Table) → CleanTable t → length (t .tasks) ≡ 64 → cle
 clean-is t k e = ap (λ (ts : List Task). record { cores = t .cores; count = t .count; tasks = ts }) (sym (padded-is 64 noTask (t .count) (taskOfTable t) (t .tasks) e (λ i l b. refl) (λ i l b. k .tasks i l)))
 
 -- ---- plans
-
--- the same plan with 0 past its counts
-abbrev pub cleanPlan : Plan → Plan
-cleanPlan p = planOf (p .cores) (p .count) (taskOf p) (p .placed) (pieceOf p)
 
 module _ (m n : ℕ) (ts : ℕ → Task) (pc : ℕ → Piece) where
   abbrev behind : ℕ → Reader
@@ -110,7 +109,7 @@ module _ (m n : ℕ) (ts : ℕ → Task) (pc : ℕ → Piece) where
   read-pieces h zero l v = read-none (behind 0) (λ j. pieceField (pc j))
   read-pieces h (suc k) l v = read-row (behind 0) k (λ j. pieceField (pc j)) ∙ ap (λ (r : Reader). read r (pieceField (pc k))) (read-pieces h k (omega arith) (λ j b. v j (omega arith))) ∙ piece-more k h l (v k (omega arith))
 
-plan-closes : (f : Field) (p : Plan) → f .bad ≡ 0 → f .count ≡ 0 → f .misshapen ≡ false → 1 ≤ p .count → checkedPlan p ≡ Accepted → planClosed (reader f p) ≡ record { answer = Accepted; plan = p }
+plan-closes : (f : Field) (p : Plan) → f .bad ≡ 0 → f .count ≡ 0 → f .misshapen ≡ false → 1 ≤ p .count → checkedPlan p ≡ Accepted → planClosed (reader f p) ≡ record { answer = Accepted; plan = cleanPlan p }
 unfolding planClosed planEnded ended
 plan-closes f p a b c d h = rw (a, b, ne-eqb (p .count) 0 (λ e. omega arith), c, h)
 
@@ -135,12 +134,4 @@ plan-reads-back p h =
     ∙ ap (λ (r : Reader). read r (row (p .placed) (λ j. pieceField (pieceOf p j)))) tasks
     ∙ read-pieces (p .cores) (p .count) (taskOf p) (pieceOf p) (n .1) (p .placed) k (costs-fit p g))
     ∙ plan-closes _ _ refl refl refl (n .0) (plan-accepted (cleanPlan p) (clean-good p g))
-
-pub clean-plan-same : (p : Plan) → p .count ≤ 64 → p .placed ≤ 128 → SamePlan p (cleanPlan p)
-clean-plan-same p h k = record { cores = refl; count = refl; tasks = λ i l. sym (padded-in 64 noTask (p .count) (taskOf p) i l (omega arith)); placed = refl; pieces = λ j l. sym (padded-in 128 noPiece (p .placed) (pieceOf p) j l (omega arith)) }
-
-pub clean-plan-is : (p : Plan) → CleanPlan p → length (p .tasks) ≡ 64 → length (p .pieces) ≡ 128 → cleanPlan p ≡ p
-clean-plan-is p k e f =
-    let ts : p .tasks ≡ padded 64 (p .count) noTask (taskOf p) = padded-is 64 noTask (p .count) (taskOf p) (p .tasks) e (λ i l b. refl) (λ i l b. k .tasks i l) in
-    let pc : p .pieces ≡ padded 128 (p .placed) noPiece (pieceOf p) = padded-is 128 noPiece (p .placed) (pieceOf p) (p .pieces) f (λ j l b. refl) (λ j l b. k .pieces j l) in
-    ap (λ (xs : List Task). record { cores = p .cores; count = p .count; tasks = xs; placed = p .placed; pieces = padded 128 (p .placed) noPiece (pieceOf p) }) (sym ts) ∙ ap (λ (xs : List Piece). record { cores = p .cores; count = p .count; tasks = p .tasks; placed = p .placed; pieces = xs }) (sym pc)
+    ∙ rw (padded-again 64 noTask (p .count) (taskOf p), padded-again 128 noPiece (p .placed) (pieceOf p))

@@ -23,7 +23,8 @@ use Rattle.files.specs.declared.ReadTable.{ReadTable}
 use Rattle.writing.specs.declared.Written.{Written}
 use Rattle.writing.specs.declared.Written.the-variants as written
 use Rattle.trips.proofs.Files.{Slice, table-written-again, table-is-good, plan-written-again, plan-is-good}
-use Rattle.trips.proofs.RoundTrip.{cleanTable, cleanPlan, table-reads-back, plan-reads-back}
+use Rattle.trips.proofs.RoundTrip.{cleanTable, table-reads-back, plan-reads-back}
+use Rattle.files.specs.Reading.{cleanPlan}
 use Rattle.writing.proofs.Writing.{write-done}
 
 -- an answer with a length says that the record was good and that the buffer starts with its file
