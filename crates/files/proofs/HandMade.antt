@@ -11,7 +11,7 @@ use Rattle.tasks.proofs.SameTables.{tasks-same}
 use Rattle.tasks.proofs.Tables.{accepted-good}
 use Rattle.tasks.proofs.Tabulate.{replicate-at}
 use Rattle.tasks.specs.Places.{placeAt}
-use Rattle.tasks.specs.Refusals.{place}
+use Rattle.tasks.specs.Refusals.{place, Refuses}
 use Rattle.tasks.specs.Tables.{noTask, checkedTasks, checkedTable, CleanTable}
 use Rattle.tasks.specs.declared.Answer.{Answer}
 use Rattle.tasks.specs.declared.Answer.the-variants.{Accepted, Refused}
@@ -22,7 +22,6 @@ use Rattle.plans.specs.Pieces.{noPiece, taskOf, pieceOf, SamePlan, CleanPlan}
 use Rattle.plans.specs.Shape.{checkedPlan}
 use Rattle.plans.specs.declared.Plan.{Plan}
 use Rattle.files.specs.Grammar.{tableAnswered, planAnswered}
-use Rattle.files.specs.Rules.{SaysNo}
 use Rattle.files.specs.Reading.{endedAfter, tableEnded, planEnded, cleanPlan, tableClosed, planClosed}
 use Rattle.files.specs.declared.Field.{Field}
 use Rattle.files.specs.declared.Reader.{Reader}
@@ -97,9 +96,9 @@ module _ (r : Reader) where
       rw e (sym (checked-same (r .plan) (cleanPlan (r .plan)) (clean-plan-same (r .plan) (g .table .tasks .1) (leb-true _ _ (tests _ _ _ _ _ (g .shaped) .1)))) ∙ good)
 
   -- a plan's reader, or one with pieces in it, is no table's: behind good fields it is refused with 2 at the end of the tasks
-  pub piece-in-table : endedAfter (r .field) (r .plan .count) ≡ Accepted → r .field .pieces || ltb 0 (r .plan .placed) ≡ true → SaysNo (tableClosed r .answer) 2 (place (r .field .end))
+  pub piece-in-table : endedAfter (r .field) (r .plan .count) ≡ Accepted → r .field .pieces || ltb 0 (r .plan .placed) ≡ true → Refuses (tableClosed r .answer) 2 (place (r .field .end))
   unfolding tableClosed tableEnded
-  piece-in-table h k = record { why = WrongTag (placeAt (r .field .end)); is = rw (h, k); numbered = refl; telling = refl }
+  piece-in-table h k = record { refusal = WrongTag (placeAt (r .field .end)); answer = rw (h, k); numbered = refl; telling = refl }
 
 -- ---- what is not read
 

@@ -9,7 +9,7 @@ use lib.Dec.{eqb}
 use lib.ListN.{length}
 use Rattle.tasks.proofs.Answers.{accepted-not}
 use Rattle.tasks.specs.Places.{placeAt}
-use Rattle.tasks.specs.Refusals.{nothing, number}
+use Rattle.tasks.specs.Refusals.{nothing, number, Refuses}
 use Rattle.tasks.specs.Tables.{andThen}
 use Rattle.tasks.specs.declared.Answer.{Answer}
 use Rattle.tasks.specs.declared.Answer.the-variants.{Accepted, Refused}
@@ -17,7 +17,6 @@ use Rattle.tasks.specs.declared.Refusal.{Refusal}
 use Rattle.tasks.specs.declared.Refusal.the-variants.{TasksAt, NoPlanShape}
 use Rattle.files.specs.Files.{planRead}
 use Rattle.files.specs.Grammar.{Before, fieldsOf, start, behind, fault, judged, tasksIn, tasksEnd, recordIn, someTask, fieldsGood, shapeFits, shapeGood}
-use Rattle.files.specs.Rules.{SaysNo}
 use Rattle.files.proofs.Exactly.{Exactly, chain}
 use Rattle.files.proofs.Telling.{refusal-number, same-refusal, fault-most, says-shape}
 use Rattle.files.proofs.FirstBad.{positive, judged-good, judged-bad}
@@ -65,7 +64,7 @@ module _ (s : List ℕ) (lent : Fits s) where
           (b .0, fits (shapeFits (fieldsOf s) (recordIn (fieldsOf s))) (b .1))
 
   -- 8: it is refused so exactly when its fields are good, one is a task, and it does not have the shape
-  pub bad-shape : Exactly (SaysNo (planRead s .answer) 8 nothing) ((fieldsGood true (fieldsOf s) ≡ Accepted) × (shapeFits (fieldsOf s) (recordIn (fieldsOf s)) ≡ false))
+  pub bad-shape : Exactly (Refuses (planRead s .answer) 8 nothing) ((fieldsGood true (fieldsOf s) ≡ Accepted) × (shapeFits (fieldsOf s) (recordIn (fieldsOf s)) ≡ false))
   bad-shape = chain (says-shape (planRead s .answer)) (record { only = λ h. only _ refl (sym (plan-answer s lent) ∙ h); when = λ h. by-shape (h .0) ∙ rw (h .1) })
     where
       fails : (c : Bool) → cond c Accepted (Refused NoPlanShape) ≡ Refused NoPlanShape → c ≡ false

@@ -7,14 +7,13 @@ use native.Mathlib.Omega.{arith}
 use lib.Dec.{leb, ltb, eqb}
 use lib.ListN.{length, getD}
 use Rattle.tasks.specs.Places.{placeAt}
-use Rattle.tasks.specs.Refusals.{place, nothing, number, tells}
+use Rattle.tasks.specs.Refusals.{place, nothing, number, tells, Refuses}
 use Rattle.tasks.specs.Tables.{coresFit, valuesFit}
 use Rattle.tasks.specs.declared.Answer.{Answer}
 use Rattle.tasks.specs.declared.Answer.the-variants.{Refused}
 use Rattle.tasks.specs.declared.Refusal.{Refusal}
 use Rattle.tasks.specs.declared.Refusal.the-variants.{CutShort, WrongTag, WrongLength, CoresAt, CoresGiven, ValuesAt, ValuesOf, TasksAt, TasksGiven, NotPlaced, NoPlanShape, NotWellMade, NotRun, TooSoon, StillActive, BufferShort}
 use Rattle.files.specs.Grammar.{number2, lengthFor, refusal, Before, tagOf, taskOfField, inPlace, valuesFault, fault}
-use Rattle.files.specs.Rules.{SaysNo}
 use Rattle.files.proofs.Exactly.{Exactly}
 
 -- the number that is kept of a bad field is its refusal's in document 01's table
@@ -75,10 +74,10 @@ placed-is (StillActive i) k h = let z : _≡_ {A = ℕ} 0 1 = cc in absurd (omeg
 placed-is (BufferShort n) k h = let z : _≡_ {A = ℕ} 0 1 = cc in absurd (omega arith)
 
 -- an answer says no with 1 to 6 and tells a place exactly when it is the refusal of this number there
-pub says-place : (a : Answer) (x k : ℕ) → 1 ≤ x → x ≤ 6 → Exactly (SaysNo a x (place k)) (a ≡ Refused (refusal x k))
+pub says-place : (a : Answer) (x k : ℕ) → 1 ≤ x → x ≤ 6 → Exactly (Refuses a x (place k)) (a ≡ Refused (refusal x k))
 says-place a x k l h = record {
-  only = λ n. n .is ∙ ap Refused (placed-is (n .why) k (n .telling) ∙ ap (λ (y : ℕ). refusal y k) (n .numbered));
-  when = λ e. record { why = refusal x k; is = e; numbered = refusal-number x k l h; telling = tells-place x k };
+  only = λ n. n .answer ∙ ap Refused (placed-is (n .refusal) k (n .telling) ∙ ap (λ (y : ℕ). refusal y k) (n .numbered));
+  when = λ e. record { refusal = refusal x k; answer = e; numbered = refusal-number x k l h; telling = tells-place x k };
 }
 
 -- the refusal with number 8 is the plan shape's
@@ -101,8 +100,8 @@ eighth-is (StillActive i) h = absurd (omega arith)
 eighth-is (BufferShort n) h = absurd (omega arith)
 
 -- an answer says no with 8 and tells nothing exactly when it is the plan shape's refusal
-pub says-shape : (a : Answer) → Exactly (SaysNo a 8 nothing) (a ≡ Refused NoPlanShape)
-says-shape a = record { only = λ n. n .is ∙ ap Refused (eighth-is (n .why) (n .numbered)); when = λ e. record { why = NoPlanShape; is = e; numbered = refl; telling = refl } }
+pub says-shape : (a : Answer) → Exactly (Refuses a 8 nothing) (a ≡ Refused NoPlanShape)
+says-shape a = record { only = λ n. n .answer ∙ ap Refused (eighth-is (n .refusal) (n .numbered)); when = λ e. record { refusal = NoPlanShape; answer = e; numbered = refl; telling = refl } }
 
 -- a choice of two numbers is bounded as both are
 most : (c : Bool) (x y n : ℕ) → x ≤ n → y ≤ n → cond c x y ≤ n

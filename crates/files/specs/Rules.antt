@@ -5,11 +5,8 @@ use mathlib.Core.List.{List, [], _∷_, _++_}
 use mathlib.Core.Logic.{_⊎_}
 use Prim.Native.Nat.{ℕ, _+_, _≤_, _<_}
 use lib.ListN.{length, getD}
-use Rattle.tasks.specs.Refusals.{Told, number, tells}
 use Rattle.tasks.specs.Tables.{coresFit, valuesFit}
-use Rattle.tasks.specs.declared.Answer.{Answer}
-use Rattle.tasks.specs.declared.Answer.the-variants.{Accepted, Refused}
-use Rattle.tasks.specs.declared.Refusal.{Refusal}
+use Rattle.tasks.specs.declared.Answer.the-variants.{Accepted}
 use Rattle.files.specs.Grammar.{Before, start, behind, number2, lengthFor, tagOf, taskOfField, inPlace, judged, tasksIn, tasksEnd}
 
 -- ---- rules, of a field f behind the fields before (b), in a plan file if o
@@ -81,12 +78,3 @@ pub record NoTask (o : Bool) (fs : List (List ℕ)) (k : ℕ) : Type 0 where
   pub good : judged o start 0 fs ≡ Accepted
   pub none : tasksIn fs ≡ []
   pub place : tasksEnd 0 fs ≡ k
-
--- ---- what we say no with
-
--- the answer is the refusal of this number, and tells this
-pub record SaysNo (a : Answer) (x : ℕ) (t : Told) : Type 0 where
-  pub why : Refusal
-  pub is : a ≡ Refused why
-  pub numbered : number why ≡ x
-  pub telling : tells why ≡ t

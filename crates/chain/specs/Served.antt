@@ -1,0 +1,43 @@
+-- What a table file comes to that is read, planned, written, read back and dispatched on a board.
+use mathlib.Core.Path.{_≡_}
+use mathlib.Core.List.{List}
+use Prim.Native.Nat.{ℕ, _≤_}
+use lib.ListN.{length, take}
+use Rattle.tasks.specs.Tables.{checkedTable}
+use Rattle.tasks.specs.declared.Answer.the-variants.{Accepted}
+use Rattle.tasks.specs.declared.Table.{Table}
+use Rattle.plans.specs.declared.Plan.{Plan}
+use Rattle.planner.specs.Layout.{planned}
+use Rattle.files.specs.Files.{tableRead, planRead}
+use Rattle.writing.specs.Fields.{planBytes}
+use Rattle.writing.specs.Writing.{planWritten, planFilled}
+use Rattle.writing.specs.declared.Written.the-variants.{Length}
+use Rattle.jobs.specs.declared.Tasks.{Tasks}
+use Rattle.dispatch.specs.States.{freshState}
+use Rattle.dispatch.specs.declared.State.{State}
+use Rattle.board.specs.Kept.{keptFor}
+use Rattle.board.specs.declared.Ran.{Ran}
+use Rattle.promise.specs.Demand3.{Demand3, PlanOf}
+use Rattle.promise.specs.Requests.{reached}
+use Rattle.chain.specs.Asked.{askedIn}
+
+-- the table that the bytes hold, and the planner's plan for it
+abbrev pub tableIn : List ℕ → Table
+tableIn s = tableRead s .table
+
+abbrev pub planFor : List ℕ → Plan
+planFor s = planned (tableIn s) .plan
+
+pub record Served (s : List ℕ) : Type 1 where
+  -- the table is good, and the plan is one of it
+  pub good : checkedTable (tableIn s) ≡ Accepted
+  pub plan : PlanOf (tableIn s) (planFor s)
+  -- the writer takes the plan if the lent buffer has room for its file
+  pub room : (e : List ℕ) → length (planBytes (planFor s)) ≤ length e → planWritten (planFor s) e ≡ Length (length (planBytes (planFor s)))
+  -- what it wrote, in any buffer and however long, reads back to the planner's plan
+  pub back : (e : List ℕ) (n : ℕ) → planWritten (planFor s) e ≡ Length n → planRead (take n (planFilled (planFor s) e)) ≡ record { answer = Accepted; plan = planFor s }
+  -- for it demand 3 holds, for every list of requests
+  pub onTime : Demand3 (planFor s)
+  -- and a loop that keeps one record and steps it in each turn comes to where the requests that it asked lead
+  pub kept : {X : Type 0} (finished released : X → Plan → State → Tasks) (see : X → Plan → Ran → State → X) (n : ℕ) (x : X) →
+      keptFor finished released see (planFor s) n x freshState .1 ≡ reached (planFor s) (askedIn finished released see (planFor s) n x freshState)
