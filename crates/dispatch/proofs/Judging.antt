@@ -212,23 +212,24 @@ module _ (u : Tasks) (bad : ℕ → Bool) where
   unfolding member
   lowest-all k low e h = h ∙ ap lowestOf e
 
-module _ (u : Tasks) (bad : ℕ → Bool) (say : TaskNo → Refusal) (low : Lowest) (is : lowestNo low ≡ lowestBad u bad) where
-  -- a task that was found is the lowest that is refused
-  pub lowest-refused : (t : TaskNo) → low ≡ Task t → t .0 < 256 → Refused (say t) ≡ lowest u bad say
+module _ (u : Tasks) (bad : ℕ → Bool) (say : TaskNo → Refusal) where
+  -- the lowest member that is bad is named
+  pub lowest-names : (t : ℕ) → t ≡ lowestBad u bad → t < 256 → Refused (say (taskNo t)) ≡ lowest u bad say
   unfolding lowest
-  lowest-refused t e l = go (either (any 256 (wrong u bad)))
+  lowest-names t et l = go (either (any 256 (wrong u bad)))
     where
-      et : t .0 ≡ lowestBad u bad
-      et = rw e at is
-
-      go : (any 256 (wrong u bad) ≡ true) ⊎ (any 256 (wrong u bad) ≡ false) → Refused (say t) ≡ cond (any 256 (wrong u bad)) (Refused (say (taskNo (lowestBad u bad)))) Accepted
+      go : (any 256 (wrong u bad) ≡ true) ⊎ (any 256 (wrong u bad) ≡ false) → Refused (say (taskNo t)) ≡ cond (any 256 (wrong u bad)) (Refused (say (taskNo (lowestBad u bad)))) Accepted
       go (inl a) = rw a (ap (λ (k : ℕ). Refused (say (taskNo k))) et)
       go (inr a) = absurd (omega (arith, et, first-none 256 (wrong u bad) a))
 
-  -- if none was found, none is refused
-  pub lowest-accepted : low ≡ Nobody → Accepted ≡ lowest u bad say
+  -- so a task that was found is the lowest that is refused
+  pub lowest-refused : (low : Lowest) → lowestNo low ≡ lowestBad u bad → (t : TaskNo) → low ≡ Task t → t .0 < 256 → Refused (say t) ≡ lowest u bad say
+  lowest-refused low is t e l = lowest-names (t .0) (rw e at is) l
+
+  -- and if none was found, none is refused
+  pub lowest-accepted : (low : Lowest) → lowestNo low ≡ lowestBad u bad → low ≡ Nobody → Accepted ≡ lowest u bad say
   unfolding lowest
-  lowest-accepted e = go (either (any 256 (wrong u bad)))
+  lowest-accepted low is e = go (either (any 256 (wrong u bad)))
     where
       et : 256 ≡ lowestBad u bad
       et = rw e at is

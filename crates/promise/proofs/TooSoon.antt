@@ -30,7 +30,7 @@ use Rattle.jobs.specs.declared.Job.{Job}
 use Rattle.jobs.specs.declared.Phase.{Phase}
 use Rattle.jobs.specs.declared.Phase.the-variants.{Never, Active, Ended}
 use Rattle.jobs.specs.declared.Tasks.{Tasks}
-use Rattle.dispatch.proofs.Judging.{lowest-refused}
+use Rattle.dispatch.proofs.Judging.{lowest-names}
 use Rattle.dispatch.proofs.Kept.{next-made, fresh-made}
 use Rattle.dispatch.specs.Advance.{checked}
 use Rattle.dispatch.specs.Refusing.{notRun, tooSoon, stillActive, lowest, judgedSets}
@@ -181,7 +181,7 @@ module _ (p : Plan) (c : GoodPlan p) (qs : List Request) where
         fine k l (inr m) = not-first (bad k) m
 
         elevens : lowest (q .released) bad TooSoon ≡ Refused (TooSoon (taskNo i))
-        elevens = sym (lowest-refused (q .released) bad TooSoon i (sym (first-is 256 (λ k. member (q .released) k && bad k) i below (both-make (a .released) (soon-test i a)) (λ k l. fine k l (either (member (q .released) k))))) below)
+        elevens = sym (lowest-names (q .released) bad TooSoon i (sym (first-is 256 (λ k. member (q .released) k && bad k) i below (both-make (a .released) (soon-test i a)) (λ k l. fine k l (either (member (q .released) k))))) below)
 
         go : Judged (q .finished) (notRun p s) NotRun → Refuses (asked p s q .answer) 11 (task i) ⊎ FinishRefused p s q
         go (passes e) = inl (refuses-make (TooSoon (taskNo i)) (then-eleven i e elevens))
