@@ -21,9 +21,9 @@ use Rattle.planner.specs.Layout.{start, place, layFirst, planned}
 use Rattle.planner.specs.Limit.{allowance, limitOf}
 use Rattle.planner.specs.Shared.{giveShare, close, shareFrom}
 use Rattle.planner.specs.Whole.{put, takesWhole}
-use Rattle.files.specs.Fields.{tagFits, values, verdict, hold, pieceTaken, nextField, added, step, read}
+use Rattle.files.specs.Fields.{tagFits, verdict, hold, pieceTaken, nextField, added, step, read}
 use Rattle.files.specs.Files.{tableRead}
-use Rattle.files.specs.Grammar.{refusal}
+use Rattle.files.specs.Grammar.{refusal, valuesFault}
 use Rattle.files.specs.Reading.{ended, tableEnded, tableClosed}
 use Rattle.trips.proofs.Files.{Slice}
 use Rattle.chain.specs.Served.{tableIn, Served}
@@ -52,12 +52,12 @@ lent = record { small = λ i. go i (decLt i (length three)); most = omega arith 
 
 -- they are read as a table
 three-read : tableRead three .answer ≡ Accepted
-unfolding tableRead tableClosed tableEnded read step verdict hold tagFits values pieceTaken nextField added further ended refusal checkedTasks any first
+unfolding tableRead tableClosed tableEnded read step verdict hold tagFits valuesFault pieceTaken nextField added further ended refusal checkedTasks any first
 three-read = refl
 
 -- the table is planned
 three-planned : planned (tableIn three) .answer ≡ Accepted
-unfolding tableRead tableClosed tableEnded read step verdict hold tagFits values pieceTaken nextField added further ended refusal planned start layFirst place takesWhole shareFrom giveShare close put limitOf allowance bound load localDeadline costs interference periods above all any first sum padded tabulate checkedTasks
+unfolding tableRead tableClosed tableEnded read step verdict hold tagFits valuesFault pieceTaken nextField added further ended refusal planned start layFirst place takesWhole shareFrom giveShare close put limitOf allowance bound load localDeadline costs interference periods above all any first sum padded tabulate checkedTasks
 three-planned = refl
 
 -- so the chain holds of them

@@ -416,7 +416,13 @@ fn choose(plan: Plan, stands: [Stand; 64]) -> [CoreRun; 16]
         let x = stand.piece.core.index();
         let found = runs[x];
         let no = jobs::runner_no(found);
-        runs[x] = better(found, no, stands[tasks::smaller(no, 63)], stand, TaskNo(i as u8));
+        runs[x] = better(
+            found,
+            no,
+            stands[tasks::smaller(no, 63)],
+            stand,
+            TaskNo(i as u8),
+        );
         i += 1;
     }
     runs

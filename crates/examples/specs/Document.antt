@@ -4,7 +4,7 @@ use mathlib.Core.List.{List, [], _∷_}
 use mathlib.Core.Option.{Option, none, some}
 use Prim.Native.Nat.{ℕ}
 use Rattle.tasks.specs.declared.Task.{Task}
-use Rattle.examples.specs.Example.{timed, whole, share, Line, line, at, Example, interferes, allows, lays, refuses, runs, ticks, stops}
+use Rattle.examples.specs.Example.{timed, whole, share, Line, line, at, Example, interferes, allows, lays, refuses, judges, runs, ticks, stops}
 
 -- (6,10,10) three times, and five times
 abbrev three : List Task
@@ -57,9 +57,11 @@ document =
     ∷ runs 3 five (on3 3 4 2 ∷ on3 3 4 2 ∷ on3 3 1 4 ∷ on3 3 1 4 ∷ on3 0 3 4 ∷ on3 0 3 4 ∷ on3 0 1 2 ∷ on3 0 1 2 ∷ on3 0 1 2 ∷ on3 0 1 2 ∷ []) 0 4
     -- the run of 20 ticks of P3's plan, and its totals
     ∷ runs 2 three (tenRows (tenRows [])) 0 4
+    -- 17 cores and 65 tasks: the core count is judged first
+    ∷ judges 17 65 4 17 ∷ judges 16 65 6 65 ∷ judges 0 0 4 0
     -- the limit of a share is taken over the D that is left, not over d: core 1 would close too early
     ∷ lays 3 (timed 8 13 13 ∷ timed 4 10 10 ∷ timed 11 16 16 ∷ timed 7 10 13 ∷ timed 3 7 8 ∷ timed 1 10 10 ∷ [])
-        (line 0 0 whole 8 ∷ line 1 1 whole 4 ∷ line 2 2 whole 11 ∷ line 3 0 share 5 ∷ line 3 1 share 2 ∷ line 4 1 share 2 ∷ line 4 2 share 1 ∷ line 5 2 whole 1 ∷ [])
+    (line 0 0 whole 8 ∷ line 1 1 whole 4 ∷ line 2 2 whole 11 ∷ line 3 0 share 5 ∷ line 3 1 share 2 ∷ line 4 1 share 2 ∷ line 4 2 share 1 ∷ line 5 2 whole 1 ∷ [])
     -- age = d and no mark is late, and a total rises up to 4,294,967,295 and stops there
     ∷ ticks 1 roomy (at 10 0 0 ∷ []) [] 0 0 (some 0 ∷ []) (true ∷ []) 1 0
     ∷ ticks 1 roomy (at 10 0 0 ∷ []) [] 4294967294 0 (some 0 ∷ []) (true ∷ []) 4294967295 0

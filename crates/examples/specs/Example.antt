@@ -7,7 +7,7 @@ use lib.Dec.{eqb}
 use lib.ListN.{length, getD}
 use Rattle.tasks.specs.Below.{tabulate}
 use Rattle.tasks.specs.Refusals.{Told, place, task, given, needed, nothing, number, tells}
-use Rattle.tasks.specs.Tables.{noTask, taskNo}
+use Rattle.tasks.specs.Tables.{noTask, taskNo, checkedTable}
 use Rattle.tasks.specs.declared.Answer.{Answer}
 use Rattle.tasks.specs.declared.Answer.the-variants.{Accepted, Refused}
 use Rattle.tasks.specs.declared.Table.{Table}
@@ -58,6 +58,8 @@ pub data Example : Type 0 where
   lays : (cores : ℕ) → List Task → List Line → Example
   -- the table on so many cores is refused with this number, telling that task
   refuses : (cores : ℕ) → List Task → (number task : ℕ) → Example
+  -- a table record with these counts is refused with this number, telling the value given
+  judges : (cores count : ℕ) → (number given : ℕ) → Example
   -- the table's plan, every task released as soon as allowed and none finishing early, runs these tasks on the cores, a row a tick, with these totals
   runs : (cores : ℕ) → List Task → List (List (Option ℕ)) → (late preemptions : ℕ) → Example
   -- a tick of the table's plan, without finishes and releases, from a state that has these jobs, these tasks last on the cores and these totals:
@@ -88,12 +90,20 @@ sameKind share share = true
 abbrev sameLine : Line → Line → Bool
 sameLine a b = eqb (a .task) (b .task) && eqb (a .core) (b .core) && sameKind (a .kind) (b .kind) && eqb (a .cost) (b .cost)
 
+-- the task that is told, and the value given that is told
 abbrev taskTold : Told → Option ℕ
 taskTold (place a) = none
 taskTold (task i) = some i
 taskTold (given a) = none
 taskTold (needed a) = none
 taskTold nothing = none
+
+abbrev givenTold : Told → Option ℕ
+givenTold (place a) = none
+givenTold (task i) = none
+givenTold (given a) = some a
+givenTold (needed a) = none
+givenTold nothing = none
 
 -- ---- what the definitions make of an example
 abbrev tableOf : ℕ → List Task → Table
@@ -128,9 +138,10 @@ abbrev isNumber : ℕ → Answer → Bool
 isNumber n Accepted = false
 isNumber n (Refused r) = eqb (number r) n
 
-abbrev refusedAs : ℕ → ℕ → Answer → Bool
-refusedAs n i Accepted = false
-refusedAs n i (Refused r) = eqb (number r) n && sameOption (taskTold (tells r)) (some i)
+-- the refusal of number n, which tells this
+abbrev refusedAs : (Told → Option ℕ) → ℕ → ℕ → Answer → Bool
+refusedAs told n i Accepted = false
+refusedAs told n i (Refused r) = eqb (number r) n && sameOption (told (tells r)) (some i)
 
 -- a task alone on a core, whose one piece has local deadline D and margin m
 abbrev alone : ℕ → ℕ → Plan
@@ -169,7 +180,8 @@ unfoldable pub holds : Example → Bool
 holds (interferes e p L v) = eqb (interference e p L) v
 holds (allows m D p v) = hasMargin (alone m D) m D && eqb (allowance (alone m D) p 0) v
 holds (lays m ts ls) = let r : Planned = planned (tableOf m ts) in accepted (r .answer) && sameList sameLine (listing (r .plan)) ls
-holds (refuses m ts n i) = refusedAs n i (planned (tableOf m ts) .answer)
+holds (refuses m ts n i) = refusedAs taskTold n i (planned (tableOf m ts) .answer)
+holds (judges m count n v) = refusedAs givenTold n v (checkedTable (record { cores = m; count = count; tasks = [] }))
 holds (runs m ts rows late preemptions) = let r : Planned = planned (tableOf m ts) in accepted (r .answer) && ranAs (r .plan) late preemptions freshState rows
 holds (ticks m ts jobs last late preemptions row marked late′ preemptions′) =
     let t : Ticked = tickFrom (planned (tableOf m ts) .plan) (stateOf jobs last late preemptions) in

@@ -134,10 +134,7 @@ fn job_well_made(i: TaskNo, task: Task, job: Job, here: Piece, placed: usize) ->
 {
     let place = job.piece as usize;
     let fits = (1 <= job.age) & (job.age <= task.period);
-    let exists = (place < placed)
-        & (place < 128)
-        & (here.task.0 == i.0)
-        & (job.ran < here.cost);
+    let exists = (place < placed) & (place < 128) & (here.task.0 == i.0) & (job.ran < here.cost);
     let nowhere = (job.piece == 0) & (job.ran == 0) & !job.late;
     let phase = job.phase;
     match phase {
