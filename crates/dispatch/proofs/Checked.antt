@@ -1,17 +1,14 @@
 -- What an accepted plan and a well made state are.
-use mathlib.Core.Path.{_≡_, refl}
-use mathlib.Core.Bool.{Bool, true, false, cond}
+use mathlib.Core.Path.{_≡_}
+use mathlib.Core.Bool.{true, cond}
 use Prim.Native.Nat.{ℕ, _≤_, _<_}
 use lib.Dec.{eqb}
 use borrow.Author.Tests.{leb-true}
 use Rattle.tasks.specs.Below.{first}
-use Rattle.tasks.specs.Tables.{andThen}
-use Rattle.tasks.specs.declared.Answer.{Answer}
 use Rattle.tasks.specs.declared.Answer.the-variants.{Accepted, Refused}
-use Rattle.tasks.specs.declared.Refusal.{Refusal}
 use Rattle.tasks.specs.declared.Refusal.the-variants.{NotWellMade}
 use Rattle.tasks.proofs.Tables.{Ranges}
-use Rattle.tasks.proofs.Answers.{accepted-not}
+use Rattle.tasks.proofs.Answers.{both-accepted, met}
 use Rattle.plans.specs.Pieces.{taskOf, pieceOf}
 use Rattle.plans.specs.Shape.{inOrder, checkedPlan}
 use Rattle.plans.specs.declared.Plan.{Plan}
@@ -22,15 +19,6 @@ use Rattle.dispatch.specs.Advance.{checked}
 use Rattle.dispatch.specs.Sound.{Sound}
 use Rattle.dispatch.specs.States.{wellMade}
 use Rattle.dispatch.specs.declared.State.{State}
-
--- ---- accepted is neither refused first nor then
-pub both-accepted : (a b : Answer) → andThen a b ≡ Accepted → (a ≡ Accepted) × (b ≡ Accepted)
-both-accepted Accepted b h = (refl, h)
-both-accepted (Refused r) b h = accepted-not h
-
-met : (b : Bool) (r : Refusal) → cond b Accepted (Refused r) ≡ Accepted → b ≡ true
-met true r h = refl
-met false r h = accepted-not h
 
 -- ---- an accepted plan and a well made state
 pub record Ready (p : Plan) (s : State) : Type 0 where

@@ -10,7 +10,8 @@ use Rattle.dispatch.specs.Advance.{checked, nextState, advanced, advance
 use Rattle.dispatch.specs.States.{wellMade}
 use Rattle.dispatch.specs.declared.Advanced.{Advanced}
 use Rattle.dispatch.specs.declared.State.{State}
-use Rattle.dispatch.proofs.Checked.{both-accepted, Ready, ready-checked}
+use Rattle.dispatch.proofs.Checked.{Ready, ready-checked}
+use Rattle.tasks.proofs.Answers.{both-accepted}
 use Rattle.dispatch.specs.Refusing.{judgedSets}
 use Rattle.dispatch.specs.Tick.{judged}
 

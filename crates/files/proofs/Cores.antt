@@ -9,7 +9,7 @@ use lib.Dec.{eqb}
 use lib.ListN.{length, getD, take}
 use lib.Seq.{getD-take}
 use borrow.Author.Tests.{eq-eqb, ne-eqb}
-use Rattle.tasks.proofs.Answers.{accepted-not}
+use Rattle.tasks.proofs.Answers.{accepted-not, both-accepted}
 use Rattle.tasks.specs.Tables.{noTask}
 use Rattle.tasks.specs.declared.Answer.{Answer}
 use Rattle.tasks.specs.declared.Answer.the-variants.{Accepted}
@@ -21,7 +21,7 @@ use Rattle.files.specs.Rules.{BodyGood}
 use Rattle.files.proofs.Exactly.{Exactly}
 use Rattle.files.proofs.GoodFields.{whole-field}
 use Rattle.files.proofs.AsSaid.{Fits, some-task, table-as-said, plan-as-said}
-use Rattle.files.proofs.FileAnswers.{both-accepted, table-answer, plan-answer}
+use Rattle.files.proofs.FileAnswers.{table-answer, plan-answer}
 
 -- ---- what is accepted
 

@@ -73,5 +73,5 @@ good-each o [] b j h = refl
 good-each o (e ∷ es) b j h = judged-good o b j e es (h [] e es refl) ∙ good-each o es (behind b e) (j + length e) (λ ds f cs q. h (e ∷ ds) f cs (ap (λ (l : List (List ℕ)). e ∷ l) q))
 
 -- fields are accepted exactly when each, behind those before it, is good
-pub all-good : (o : Bool) (es : List (List ℕ)) → Exactly (judged o start 0 es ≡ Accepted) ((ds : List (List ℕ)) (f : List ℕ) (cs : List (List ℕ)) → es ≡ ds ++ (f ∷ cs) → fault o (behindAll start ds) f ≡ 0)
-all-good o es = record { only = λ h ds f cs q. each-good o ds f cs start 0 (ap (judged o start 0) (sym q) ∙ h); when = good-each o es start 0 }
+pub accepted-each : (o : Bool) (es : List (List ℕ)) → Exactly (judged o start 0 es ≡ Accepted) ((ds : List (List ℕ)) (f : List ℕ) (cs : List (List ℕ)) → es ≡ ds ++ (f ∷ cs) → fault o (behindAll start ds) f ≡ 0)
+accepted-each o es = record { only = λ h ds f cs q. each-good o ds f cs start 0 (ap (judged o start 0) (sym q) ∙ h); when = good-each o es start 0 }

@@ -8,7 +8,7 @@ use native.Mathlib.Omega.{arith}
 use lib.Dec.{eqb}
 use lib.ListN.{length}
 use borrow.Author.Tests.{eqb-true}
-use Rattle.tasks.proofs.Answers.{accepted-not}
+use Rattle.tasks.proofs.Answers.{accepted-not, refused-is}
 use Rattle.tasks.specs.Places.{placeAt}
 use Rattle.tasks.specs.Refusals.{number, tells, place}
 use Rattle.tasks.specs.Tables.{andThen}
@@ -24,13 +24,7 @@ use Rattle.files.specs.Grammar.{tableAnswered, planAnswered, fieldsOf, s
 use Rattle.files.specs.Rules.{NoTask}
 use Rattle.files.proofs.Exactly.{Exactly}
 use Rattle.files.proofs.Filled.{no-length}
-use Rattle.files.proofs.Telling.{same-refusal}
 use Rattle.files.proofs.AsSaid.{Fits, table-as-said, plan-as-said}
-
--- what two tests accept each accepts
-pub both-accepted : (a b : Answer) → andThen a b ≡ Accepted → (a ≡ Accepted) × (b ≡ Accepted)
-both-accepted Accepted b h = (refl, h)
-both-accepted (Refused x) b h = accepted-not h
 
 -- a table file's answer is the one it was answered with
 pub table-has : (a : Answer) (p : Plan) → tableAnswered a p .answer ≡ a
@@ -55,7 +49,7 @@ plan-answer s lent = ap (λ (r : ReadPlan). r .answer) (plan-as-said s lent) ∙
 -- the shape is refused with 8 only
 shape-eight : (c : Bool) (x : Refusal) → number x < 7 → cond c Accepted (Refused NoPlanShape) ≡ Refused x → ⊥
 shape-eight true x l h = accepted-not (sym h)
-shape-eight false x l h = let e : 8 ≡ number x = ap number (same-refusal NoPlanShape x h) in omega arith
+shape-eight false x l h = let e : 8 ≡ number x = ap number (refused-is {r = NoPlanShape} {s = x} h) in omega arith
 
 -- a refusal that the second test does not give is the first's
 then-refused : (a b : Answer) (x : Refusal) → (b ≡ Refused x → ⊥) → andThen a b ≡ Refused x → a ≡ Refused x
@@ -72,7 +66,7 @@ by-fields true s lent x l = record {
 
 -- no task is refused with 6 only
 task-six : (c : Bool) (j : ℕ) (x : Refusal) → number x < 6 → cond c (Refused (TasksAt (placeAt j))) Accepted ≡ Refused x → ⊥
-task-six true j x l h = let e : 6 ≡ number x = ap number (same-refusal (TasksAt (placeAt j)) x h) in omega arith
+task-six true j x l h = let e : 6 ≡ number x = ap number (refused-is {r = TasksAt (placeAt j)} {s = x} h) in omega arith
 task-six false j x l h = accepted-not (sym h)
 
 -- below 6 it is the first bad field that decides
@@ -88,7 +82,7 @@ by-six o fs k = record { only = λ h. only _ refl h; when = when }
   where
     none : judged o start 0 fs ≡ Accepted → (c : Bool) → eqb (length (tasksIn fs)) 0 ≡ c → cond c (Refused (TasksAt (placeAt (tasksEnd 0 fs)))) Accepted ≡ Refused (TasksAt (placeAt k)) → NoTask o fs k
     none g true e h =
-        let t : place (tasksEnd 0 fs) ≡ place k = ap tells (same-refusal (TasksAt (placeAt (tasksEnd 0 fs))) (TasksAt (placeAt k)) h) in
+        let t : place (tasksEnd 0 fs) ≡ place k = ap tells (refused-is {r = TasksAt (placeAt (tasksEnd 0 fs))} {s = TasksAt (placeAt k)} h) in
         let p : tasksEnd 0 fs ≡ k = cc in
         record { good = g; none = no-length (tasksIn fs) (eqb-true (length (tasksIn fs)) 0 e); place = p }
     none g false e h = accepted-not (sym h)

@@ -7,12 +7,12 @@ use native.Mathlib.Decide.{ℕ-discrete}
 use native.Mathlib.Omega.{arith}
 use lib.ListN.{length, length-append}
 use borrow.Author.Tests.{eq-eqb, ne-eqb}
-use Rattle.tasks.proofs.Answers.{accepted-not}
+use Rattle.tasks.proofs.Answers.{accepted-not, refused-is}
 use Rattle.tasks.specs.declared.Answer.the-variants.{Accepted, Refused}
 use Rattle.files.specs.Grammar.{refusal, Before, start, behind, fault, judged}
 use Rattle.files.specs.Rules.{behindAll, joined, FirstBad}
 use Rattle.files.proofs.Exactly.{Exactly}
-use Rattle.files.proofs.Telling.{same-place, same-number, same-refusal, fault-most}
+use Rattle.files.proofs.Telling.{same-place, same-number, fault-most}
 
 -- the first bad field of fs, which begin at j behind b, has this fault and stands at k
 record From (o : Bool) (b : Before) (j : ℕ) (fs : List (List ℕ)) (x k : ℕ) : Type 0 where
@@ -59,7 +59,7 @@ module _ (o : Bool) (x k : ℕ) (some : 1 ≤ x) (most : x ≤ 6) where
           let t : From o (behind b f) (j + length f) fs x k = ih (sym (judged-good o b j f fs z) ∙ h) in
           record { earlier = f ∷ t .earlier; field = t .field; later = t .later; row = ap (λ (l : List (List ℕ)). f ∷ l) (t .row); good = judged-good o b j f (t .earlier) z ∙ t .good; place = omega (arith, t .place, length-append f (joined (t .earlier))); faulty = t .faulty }
       go (no z) ih =
-          let e : refusal (fault o b f) j ≡ refusal x k = same-refusal _ _ (sym (judged-bad o b j f fs z) ∙ h) in
+          let e : refusal (fault o b f) j ≡ refusal x k = refused-is (sym (judged-bad o b j f fs z) ∙ h) in
           record { earlier = []; field = f; later = fs; row = refl; good = refl; place = omega (arith, same-place (fault o b f) x j k e); faulty = same-number (fault o b f) x j k (positive (fault o b f) z) (fault-most o b f) some most e }
 
   -- and a first bad field is refused

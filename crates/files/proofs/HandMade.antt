@@ -5,7 +5,7 @@ use Prim.Native.Nat.{_≤_}
 use native.Mathlib.Omega.{arith}
 use lib.Dec.{ltb}
 use borrow.Author.Tests.{leb-true}
-use Rattle.tasks.proofs.Answers.{accepted-not}
+use Rattle.tasks.proofs.Answers.{accepted-not, both-accepted}
 use Rattle.tasks.proofs.Padded.{padded-in, padded-out}
 use Rattle.tasks.proofs.SameTables.{tasks-same}
 use Rattle.tasks.proofs.Tables.{accepted-good}
@@ -27,7 +27,7 @@ use Rattle.files.specs.declared.Field.{Field}
 use Rattle.files.specs.declared.Reader.{Reader}
 use Rattle.files.proofs.Clean.{clean-plan-same, clean-plans}
 use Rattle.files.proofs.Fields.{reader}
-use Rattle.files.proofs.FileAnswers.{both-accepted, table-has, plan-has}
+use Rattle.files.proofs.FileAnswers.{table-has, plan-has}
 
 -- ---- what an accepted end says
 

@@ -7,7 +7,7 @@ use native.Mathlib.Decide.{ℕ-discrete}
 use native.Mathlib.Omega.{arith}
 use lib.Dec.{eqb}
 use lib.ListN.{length}
-use Rattle.tasks.proofs.Answers.{accepted-not}
+use Rattle.tasks.proofs.Answers.{accepted-not, refused-is, both-accepted, met}
 use Rattle.tasks.specs.Places.{placeAt}
 use Rattle.tasks.specs.Refusals.{nothing, number, Refuses}
 use Rattle.tasks.specs.Tables.{andThen}
@@ -18,10 +18,10 @@ use Rattle.tasks.specs.declared.Refusal.the-variants.{TasksAt, NoPlanShape}
 use Rattle.files.specs.Files.{planRead}
 use Rattle.files.specs.Grammar.{Before, fieldsOf, start, behind, fault, judged, tasksIn, tasksEnd, recordIn, someTask, fieldsGood, shapeFits, shapeGood}
 use Rattle.files.proofs.Exactly.{Exactly, chain}
-use Rattle.files.proofs.Telling.{refusal-number, same-refusal, fault-most, says-shape}
+use Rattle.files.proofs.Telling.{refusal-number, fault-most, says-shape}
 use Rattle.files.proofs.FirstBad.{positive, judged-good, judged-bad}
 use Rattle.files.proofs.AsSaid.{Fits}
-use Rattle.files.proofs.FileAnswers.{both-accepted, plan-answer}
+use Rattle.files.proofs.FileAnswers.{plan-answer}
 
 -- a bad field is refused with 1 to 6
 judged-number : (o : Bool) (fs : List (List ℕ)) (b : Before) (j : ℕ) (x : Refusal) → judged o b j fs ≡ Refused x → number x < 7
@@ -31,14 +31,14 @@ judged-number o (f ∷ fs) b j x h = go (ℕ-discrete (fault o b f) 0) (judged-n
   where
     go : Dec (fault o b f ≡ 0) → (judged o (behind b f) (j + length f) fs ≡ Refused x → number x < 7) → number x < 7
     go (yes z) ih = ih (sym (judged-good o b j f fs z) ∙ h)
-    go (no z) ih = let e : fault o b f ≡ number x = sym (refusal-number (fault o b f) j (positive (fault o b f) z) (fault-most o b f)) ∙ ap number (same-refusal _ x (sym (judged-bad o b j f fs z) ∙ h)) in omega (arith, fault-most o b f)
+    go (no z) ih = let e : fault o b f ≡ number x = sym (refusal-number (fault o b f) j (positive (fault o b f) z) (fault-most o b f)) ∙ ap number (refused-is {s = x} (sym (judged-bad o b j f fs z) ∙ h)) in omega (arith, fault-most o b f)
 
 -- the fields are never refused with 8
 fields-number : (o : Bool) (fs : List (List ℕ)) (x : Refusal) → fieldsGood o fs ≡ Refused x → number x < 7
 fields-number o fs x h = go _ refl h
   where
     some : (c : Bool) → cond c (Refused (TasksAt (placeAt (tasksEnd 0 fs)))) Accepted ≡ Refused x → number x < 7
-    some true q = let e : 6 ≡ number x = ap number (same-refusal (TasksAt (placeAt (tasksEnd 0 fs))) x q) in omega arith
+    some true q = let e : 6 ≡ number x = ap number (refused-is {r = TasksAt (placeAt (tasksEnd 0 fs))} {s = x} q) in omega arith
     some false q = accepted-not (sym q)
 
     go : (a : Answer) → judged o start 0 fs ≡ a → andThen (judged o start 0 fs) (someTask fs) ≡ Refused x → number x < 7
@@ -54,14 +54,10 @@ module _ (s : List ℕ) (lent : Fits s) where
   pub plan-accepted : Exactly (planRead s .answer ≡ Accepted) ((fieldsGood true (fieldsOf s) ≡ Accepted) × (shapeFits (fieldsOf s) (recordIn (fieldsOf s)) ≡ true))
   plan-accepted = record { only = only; when = λ h. by-shape (h .0) ∙ rw (h .1) }
     where
-      fits : (c : Bool) → cond c Accepted (Refused NoPlanShape) ≡ Accepted → c ≡ true
-      fits true q = refl
-      fits false q = accepted-not q
-
       only : planRead s .answer ≡ Accepted → (fieldsGood true (fieldsOf s) ≡ Accepted) × (shapeFits (fieldsOf s) (recordIn (fieldsOf s)) ≡ true)
       only h =
           let b : (fieldsGood true (fieldsOf s) ≡ Accepted) × (shapeGood (fieldsOf s) (recordIn (fieldsOf s)) ≡ Accepted) = both-accepted (fieldsGood true (fieldsOf s)) (shapeGood (fieldsOf s) (recordIn (fieldsOf s))) (sym (plan-answer s lent) ∙ h) in
-          (b .0, fits (shapeFits (fieldsOf s) (recordIn (fieldsOf s))) (b .1))
+          (b .0, met (shapeFits (fieldsOf s) (recordIn (fieldsOf s))) NoPlanShape (b .1))
 
   -- 8: it is refused so exactly when its fields are good, one is a task, and it does not have the shape
   pub bad-shape : Exactly (Refuses (planRead s .answer) 8 nothing) ((fieldsGood true (fieldsOf s) ≡ Accepted) × (shapeFits (fieldsOf s) (recordIn (fieldsOf s)) ≡ false))

@@ -49,10 +49,6 @@ same-place x y k j h = let t : place k ≡ place j = sym (tells-place x k) ∙ a
 pub same-number : (x y k j : ℕ) → 1 ≤ x → x ≤ 6 → 1 ≤ y → y ≤ 6 → refusal x k ≡ refusal y j → x ≡ y
 same-number x y k j a b c d h = sym (refusal-number x k a b) ∙ ap number h ∙ refusal-number y j c d
 
--- equal answers have equal refusals
-pub same-refusal : (x y : Refusal) → Refused x ≡ Refused y → x ≡ y
-same-refusal x y h = cc
-
 -- what tells a place is the refusal of its number there
 placed-is : (r : Refusal) (k : ℕ) → tells r ≡ place k → r ≡ refusal (number r) k
 unfolding refusal

@@ -8,9 +8,11 @@ use Rattle.files.specs.Reading.{begun, tableClosed, planClosed}
 use Rattle.files.specs.declared.ReadPlan.{ReadPlan}
 use Rattle.files.specs.declared.ReadTable.{ReadTable}
 
+-- a table file
 unfoldable pub tableRead : List ℕ → ReadTable
 tableRead s = tableClosed (read (begun false) s)
 
+-- a plan file
 unfoldable pub planRead : List ℕ → ReadPlan
 planRead s = planClosed (read (begun true) s)
 

@@ -22,10 +22,11 @@ use Rattle.files.specs.declared.ReadTable.{ReadTable}
 
 -- ---- fields in a row: tag (one byte), length (two bytes), body; all numbers are high byte first
 
--- the number of two bytes from i on, and of four
+-- the number of two bytes from i on
 abbrev pub number2 : List ℕ → ℕ → ℕ
 number2 s i = getD s i 0 * 256 + getD s (i + 1) 0
 
+-- the number of four bytes from i on
 abbrev pub number4 : List ℕ → ℕ → ℕ
 number4 s i = number2 s i * 65536 + number2 s (i + 2)
 
@@ -181,11 +182,12 @@ shapeGood fs p = cond (shapeFits fs p) Accepted (Refused NoPlanShape)
 abbrev pub emptyPlan : ℕ → Plan
 emptyPlan m = record { cores = m; count = 0; tasks = replicate 64 noTask; placed = 0; pieces = replicate 128 noPiece }
 
--- on a refusal the record is all zeros
+-- a table file so answered: on a refusal the record is all zeros
 abbrev pub tableAnswered : Answer → Plan → ReadTable
 tableAnswered Accepted p = record { answer = Accepted; table = record { cores = p .cores; count = p .count; tasks = p .tasks } }
 tableAnswered (Refused x) p = record { answer = Refused x; table = record { cores = 0; count = 0; tasks = replicate 64 noTask } }
 
+-- a plan file so answered
 abbrev pub planAnswered : Answer → Plan → ReadPlan
 planAnswered Accepted p = record { answer = Accepted; plan = p }
 planAnswered (Refused x) p = record { answer = Refused x; plan = emptyPlan 0 }

@@ -41,10 +41,11 @@ ended f n =
 abbrev pub fieldsAnswer : Field → Answer
 fieldsAnswer f = cond (eqb (f .bad) 0) Accepted (Refused (refusal (f .bad) (f .place)))
 
+-- what the fields are answered with where the file ends, n tasks having been read
 abbrev pub endedAfter : Field → ℕ → Answer
 endedAfter f n = fieldsAnswer (ended f n)
 
--- what was read is judged as a record. Pieces stand only in plan files: a plan's reader, or one with pieces in it, is no table's, and is refused at the end of the tasks
+-- pieces stand only in plan files: a plan's reader, or one with pieces in it, is no table's and gets 2 at the end of the tasks; then what was read is judged as a record
 unfoldable pub tableEnded : Field → Plan → Answer
 tableEnded f p = andThen (endedAfter f (p .count)) (cond (f .pieces || ltb 0 (p .placed)) (Refused (WrongTag (placeAt (f .end)))) (checkedTasks (p .cores) (p .count) (taskOf p)))
 
@@ -56,9 +57,10 @@ planEnded f p = andThen (endedAfter f (p .count)) (cond (f .misshapen) (Refused 
 abbrev pub cleanPlan : Plan → Plan
 cleanPlan p = record { cores = p .cores; count = p .count; tasks = padded 64 (p .count) noTask (taskOf p); placed = p .placed; pieces = padded 128 (p .placed) noPiece (pieceOf p) }
 
--- the answer for a table file that ends here, and for a plan file
+-- a table file that ends here
 unfoldable pub tableClosed : Reader → ReadTable
 tableClosed r = tableAnswered (tableEnded (r .field) (r .plan)) (cleanPlan (r .plan))
 
+-- a plan file that ends here
 unfoldable pub planClosed : Reader → ReadPlan
 planClosed r = planAnswered (planEnded (r .field) (r .plan)) (cleanPlan (r .plan))

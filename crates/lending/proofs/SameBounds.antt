@@ -5,6 +5,7 @@ use mathlib.Core.Bool.{cond}
 use Prim.Native.Nat.{ℕ, _<_}
 use native.Mathlib.Decide.{decLt}
 use native.Mathlib.Omega.{arith}
+use Rattle.tasks.specs.Tables.{SameTable}
 use Rattle.tasks.specs.declared.Answer.{Answer}
 use Rattle.tasks.specs.declared.Answer.the-variants.{Accepted, Refused}
 use Rattle.tasks.specs.declared.Table.{Table}
@@ -58,6 +59,11 @@ module _ (a b : Plan) (e : SamePlan a b) (q : ℕ) where
       go Accepted c (no d) = asked-past a q c (omega arith) ∙ sym (asked-past b q (sym (checked-same a b e) ∙ c) (omega (arith, e .placed)))
       go Accepted c (yes d) =
           asked-known a q c d ∙ rw (bound-same c d, deadline-same c d) (sym (asked-known b q (sym (checked-same a b e) ∙ c) (omega (arith, e .placed))))
+
+-- tables that are the same give the same bounds over a lent list
+pub lent-same : (t u : Table) (ys : List Piece) (q : ℕ) → SameTable t u → boundLent t ys q ≡ boundLent u ys q
+unfolding boundLent
+lent-same t u ys q e = asked-same (lentPlan t ys) (lentPlan u ys) (record { cores = e .cores; count = e .count; tasks = e .tasks; placed = refl; pieces = λ j l. refl }) q
 
 -- what a plan with the same table and the same pieces in its own array gives, the lent list gives
 pub lent-flat : (t : Table) (ys : List Piece) (p : Plan) (q : ℕ) → SamePlan (lentPlan t ys) p → boundLent t ys q ≡ boundAsked p q

@@ -20,7 +20,7 @@ use Rattle.jobs.specs.Sets.{member}
 use Rattle.dispatch.specs.States.{wellMade}
 use Rattle.dispatch.specs.declared.State.{State}
 use Rattle.jobs.specs.declared.Tasks.{Tasks}
-use Rattle.dispatch.proofs.Checked.{both-accepted}
+use Rattle.tasks.proofs.Answers.{both-accepted}
 use Rattle.dispatch.proofs.CheckedTick.{Taken, taken}
 
 no-refusal : (b : Bool) (r : Refusal) (a : Answer) → cond b (Refused r) a ≡ Accepted → b ≡ false

@@ -149,20 +149,25 @@ module _ (o : Bool) (s : List ℕ) (lent : Slice s) (e : Ended (read (begun o) s
 
 -- every accepted table file that names its core count is written again byte for byte, any other with the count of 4 before it
 module _ (s : List ℕ) (lent : Slice s) (accepted : tableRead s .answer ≡ Accepted) where
+  -- its end was accepted
   table-ended : tableEnded (read (begun false) s .field) (read (begun false) s .plan) ≡ Accepted
   unfolding tableRead tableClosed
   table-ended = sym (table-has _ (cleanPlan (read (begun false) s .plan))) ∙ accepted
 
+  -- so its fields are good
   table-fields : Ended (read (begun false) s .field) (read (begun false) s .plan .count)
   table-fields = ended-says _ _ (table-passed _ _ table-ended .0)
 
+  -- no piece spoils a table
   table-plain : read (begun false) s .field .misshapen ≡ false
   table-plain = held false s lent table-fields .plain refl
 
+  -- what was read is handed out
   table-is : tableRead s .table ≡ tableOf (read (begun false) s .plan)
   unfolding tableRead tableClosed
   table-is = rw table-ended (ap tableOf (cleaned false s lent table-fields table-plain))
 
+  -- it is written again
   pub table-written-again : tableBytes (tableRead s .table) ≡ cond (eqb (getD s 0 0) 1) s (coreField defaultCores ++ s)
   table-written-again = ap tableBytes table-is ∙ table-told _ (content false s lent table-fields table-plain .alone refl) ∙ again false s lent table-fields table-plain
 
@@ -172,20 +177,25 @@ module _ (s : List ℕ) (lent : Slice s) (accepted : tableRead s .answer ≡ Acc
 
 -- every accepted plan file that names its core count is written again byte for byte, any other with the count of 4 before it
 module _ (s : List ℕ) (lent : Slice s) (accepted : planRead s .answer ≡ Accepted) where
+  -- its end was accepted
   plan-ended : planEnded (read (begun true) s .field) (read (begun true) s .plan) ≡ Accepted
   unfolding planRead planClosed
   plan-ended = sym (plan-has _ (cleanPlan (read (begun true) s .plan))) ∙ accepted
 
+  -- so its fields are good
   plan-fields : Ended (read (begun true) s .field) (read (begun true) s .plan .count)
   plan-fields = ended-says _ _ (plan-passed _ _ plan-ended .0)
 
+  -- and no piece spoils the shape
   plan-plain : read (begun true) s .field .misshapen ≡ false
   plan-plain = plan-passed _ _ plan-ended .1 .0
 
+  -- what was read is handed out
   plan-is : planRead s .plan ≡ read (begun true) s .plan
   unfolding planRead planClosed
   plan-is = rw plan-ended (cleaned true s lent plan-fields plan-plain)
 
+  -- it is written again
   pub plan-written-again : planBytes (planRead s .plan) ≡ cond (eqb (getD s 0 0) 1) s (coreField defaultCores ++ s)
   plan-written-again = ap planBytes plan-is ∙ plan-told _ ∙ again true s lent plan-fields plan-plain
 

@@ -75,6 +75,7 @@ module _ (o : Bool) (m : ℕ) (ts : ℕ → Task) (pc : ℕ → Piece) where
 abbrev pub cleanTable : Table → Table
 cleanTable t = record { cores = t .cores; count = t .count; tasks = padded 64 (t .count) noTask (taskOfTable t) }
 
+-- a table's reader behind a good table hands it out
 table-closes : (q m n : ℕ) (ts : ℕ → Task) (pc : ℕ → Piece) → GoodTable m n ts → tableClosed (reader (fieldAt false q q false) (planOf m n ts 0 pc)) ≡ record { answer = Accepted; table = record { cores = m; count = n; tasks = padded 64 n noTask ts } }
 unfolding tableClosed tableEnded ended
 table-closes q m n ts pc g =
@@ -109,6 +110,7 @@ module _ (m n : ℕ) (ts : ℕ → Task) (pc : ℕ → Piece) where
   read-pieces h zero l v = read-none (behind 0) (λ j. pieceField (pc j))
   read-pieces h (suc k) l v = read-row (behind 0) k (λ j. pieceField (pc j)) ∙ ap (λ (r : Reader). read r (pieceField (pc k))) (read-pieces h k (omega arith) (λ j b. v j (omega arith))) ∙ piece-more k h l (v k (omega arith))
 
+-- a plan's reader behind a good plan hands it out clean
 plan-closes : (f : Field) (p : Plan) → f .bad ≡ 0 → f .count ≡ 0 → f .misshapen ≡ false → 1 ≤ p .count → checkedPlan p ≡ Accepted → planClosed (reader f p) ≡ record { answer = Accepted; plan = cleanPlan p }
 unfolding planClosed planEnded ended
 plan-closes f p a b c d h = rw (a, b, ne-eqb (p .count) 0 (λ e. omega arith), c, h)
