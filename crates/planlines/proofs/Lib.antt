@@ -1,3 +1,3 @@
-pub mod Whole
+pub mod Lengths
 pub mod SameListings
 pub mod Settled

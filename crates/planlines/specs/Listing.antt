@@ -25,6 +25,16 @@ kindText Share = ascii " share "
 unfoldable pub pieceText : Piece → List ℕ
 pieceText z = decimal (z .task .0) ++ (ascii " " ++ (decimal (z .core .0) ++ (kindText (z .kind) ++ (decimal (z .cost) ++ ascii "\n"))))
 
+-- the most bytes that the first line can have, and a piece's line, and a listing: the first line and 128 pieces
+abbrev pub headMost : ℕ
+headMost = 54
+
+abbrev pub pieceMost : ℕ
+pieceMost = 69
+
+abbrev pub listingMost : ℕ
+listingMost = 8886
+
 -- a first line gives cores and tasks; then each piece
 unfoldable pub listingText : Plan → List ℕ
 listingText p = headText (p .cores) (p .count) ++ row (min (p .placed) 128) (λ j. pieceText (pieceOf p j))

@@ -1,73 +1,96 @@
-// The listing of a plan, and what the lister prints.
+// The listing of a plan, and what the lister prints, in lent bytes: a text is put in from `at` on, and the answer is where it ends.
+// Where the longest text of its kind has no room, nothing is put and the answer is `at`.
 ghost use mathlib.Core.Path.{_≡_};
-ghost use Rattle.texts.specs.Text.{puts, textOf};
-ghost use Rattle.planlines.specs.Listing.{kindText, pieceText, listingText, plannedText, listerText};
+ghost use Rattle.texts.specs.Text.{putEnd, putIn};
+ghost use Rattle.planlines.specs.Listing.{headText, headMost, kindText, pieceText, pieceMost, listingText, listingMost, plannedText, listerText};
 use files::ReadTable;
 use planner::Planned;
 use plans::Kind;
 use plans::Piece;
 use plans::Plan;
 use tasks::Answer;
-use texts::Text;
 
-fn kind(text: Text, kind: Kind) -> Text
-    ensures { λ r. ⌜ r ≡ puts text (kindText kind) ⌝ }
+// The word of a kind.
+fn kind(out: &mut [u8], at: usize, kind: Kind) -> usize
+    ensures { λ r. ⌜ (r ≡ putEnd 7 at (now (out .entry)) (kindText kind)) × (now (out .exit) ≡ putIn 7 at (now (out .entry)) (kindText kind)) ⌝ }
 {
     match kind {
-        Kind::Whole => text.words(b" whole "),
-        Kind::Share => text.words(b" share "),
+        Kind::Whole => texts::words(out, at, b" whole "),
+        Kind::Share => texts::words(out, at, b" share "),
     }
 }
 
 // Task, core, kind, cost.
-fn piece(text: Text, piece: Piece) -> Text
-    ensures { λ r. ⌜ r ≡ puts text (pieceText piece) ⌝ }
+fn piece(out: &mut [u8], at: usize, piece: Piece) -> usize
+    ensures { λ r. ⌜ (r ≡ putEnd pieceMost at (now (out .entry)) (pieceText piece)) × (now (out .exit) ≡ putIn pieceMost at (now (out .entry)) (pieceText piece)) ⌝ }
 {
+    if texts::short(out.len(), at, 69) {
+        return at;
+    }
     let its_kind = piece.kind;
-    let places = text.number(piece.task.0 as u64)
-        .words(b" ")
-        .number(piece.core.0 as u64);
-    kind(places, its_kind).number(piece.cost as u64)
-        .words(b"\n")
+    let task = texts::number(out, at, piece.task.0 as u64);
+    let gap = texts::words(out, task, b" ");
+    let core = texts::number(out, gap, piece.core.0 as u64);
+    let cost = kind(out, core, its_kind);
+    let end = texts::number(out, cost, piece.cost as u64);
+    texts::words(out, end, b"\n")
+}
+
+// The first line: cores and tasks.
+fn head(out: &mut [u8], at: usize, cores: usize, count: usize) -> usize
+    ensures { λ r. ⌜ (r ≡ putEnd headMost at (now (out .entry)) (headText cores count)) × (now (out .exit) ≡ putIn headMost at (now (out .entry)) (headText cores count)) ⌝ }
+{
+    if texts::short(out.len(), at, 54) {
+        return at;
+    }
+    let begun = texts::words(out, at, b"cores ");
+    let first = texts::number(out, begun, cores as u64);
+    let gap = texts::words(out, first, b" tasks ");
+    let end = texts::number(out, gap, count as u64);
+    texts::words(out, end, b"\n")
 }
 
 // The plan's listing: cores and tasks, then each piece.
-fn listing(text: Text, plan: Plan) -> Text
-    ensures { λ r. ⌜ r ≡ puts text (listingText plan) ⌝ }
+fn listing(out: &mut [u8], at: usize, plan: Plan) -> usize
+    ensures { λ r. ⌜ (r ≡ putEnd listingMost at (now (out .entry)) (listingText plan)) × (now (out .exit) ≡ putIn listingMost at (now (out .entry)) (listingText plan)) ⌝ }
 {
-    let mut t = text.words(b"cores ")
-        .number(plan.cores as u64)
-        .words(b" tasks ")
-        .number(plan.count as u64)
-        .words(b"\n");
+    if texts::short(out.len(), at, 8886) {
+        return at;
+    }
+    let mut end = head(out, at, plan.cores, plan.count);
     let most = tasks::smaller(plan.placed, 128);
     let mut j = 0;
     while j < most {
-        t = piece(t, plan.pieces[j]);
+        end = piece(out, end, plan.pieces[j]);
         j += 1;
     }
-    t
+    end
 }
 
 // The listing of the planner's answer.
-pub fn planned(planned: Planned) -> Text
-    ensures { λ r. ⌜ r ≡ textOf (plannedText planned) ⌝ }
+pub fn planned(out: &mut [u8], at: usize, planned: Planned) -> usize
+    ensures { λ r. ⌜ (r ≡ putEnd listingMost at (now (out .entry)) (plannedText planned)) × (now (out .exit) ≡ putIn listingMost at (now (out .entry)) (plannedText planned)) ⌝ }
 {
-    let text = Text::empty();
+    if texts::short(out.len(), at, 8886) {
+        return at;
+    }
     let answer = planned.answer;
     match answer {
-        Answer::Accepted => listing(text, planned.plan),
-        Answer::Refused(refusal) => texts::refusal(text, refusal),
+        Answer::Accepted => listing(out, at, planned.plan),
+        Answer::Refused(refusal) => texts::refusal(out, at, refusal),
     }
 }
 
 // What the lister prints for a table file that was read.
-pub fn lister(read: ReadTable) -> Text
-    ensures { λ r. ⌜ r ≡ textOf (listerText read) ⌝ }
+pub fn lister(out: &mut [u8], at: usize, read: ReadTable) -> usize
+    ensures { λ r. ⌜ (r ≡ putEnd listingMost at (now (out .entry)) (listerText read)) × (now (out .exit) ≡ putIn listingMost at (now (out .entry)) (listerText read)) ⌝ }
 {
+    if texts::short(out.len(), at, 8886) {
+        return at;
+    }
     let answer = read.answer;
     match answer {
-        Answer::Accepted => planned(planner::plan_table(read.table)),
-        Answer::Refused(refusal) => texts::refusal(Text::empty(), refusal),
+        Answer::Accepted => planned(out, at, planner::plan_table(read.table)),
+        Answer::Refused(refusal) => texts::refusal(out, at, refusal),
     }
 }

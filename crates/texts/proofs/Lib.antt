@@ -1,4 +1,3 @@
 pub mod Putting
-pub mod Whole
-pub mod WholeLine
+pub mod Telling
 pub mod Settled

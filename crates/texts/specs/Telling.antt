@@ -19,6 +19,13 @@ toldText nothing = []
 unfoldable pub refusalText : Refusal → List ℕ
 refusalText x = ascii "refused " ++ (decimal (number x) ++ (toldText (tells x) ++ ascii "\n"))
 
+-- the most bytes that a refusal's number and what it tells can have, and a refusal's line
+abbrev pub toldMost : ℕ
+toldMost = 47
+
+abbrev pub refusalMost : ℕ
+refusalMost = 56
+
 -- a refusal's line, or what is said where nothing is refused
 abbrev pub answerText : Answer → List ℕ → List ℕ
 answerText (Refused x) said = refusalText x

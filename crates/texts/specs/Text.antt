@@ -1,30 +1,11 @@
--- A text that is put together byte by byte, and the bytes of words and numbers.
+-- The bytes of words and numbers, and a text that is put into lent bytes.
 use mathlib.Core.Bool.{cond}
 use mathlib.Core.List.{List, [], _∷_, _++_}
 use Prim.Native.Char.{code}
 use Prim.Native.Nat.{ℕ, zero, suc, _+_, _/_, _%_}
 use Prim.Native.String.{String, [] as none, _∷_ as _then_}
-use lib.Dec.{ltb}
-use lib.ListN.{set, take, replicate}
-use Rattle.texts.specs.declared.Text.{Text}
-
-abbrev pub noText : Text
-noText = record { bytes = replicate 9216 0; count = 0 }
-
--- one byte more; what a text cannot hold is left out
-unfoldable pub put : Text → ℕ → Text
-put t b = cond (ltb (t .count) 9216) (record { bytes = set (t .bytes) (t .count) b; count = t .count + 1 }) t
-
-unfoldable pub puts : Text → List ℕ → Text
-puts t [] = t
-puts t (b ∷ bs) = puts (put t b) bs
-
--- the text of some bytes, and the bytes of a text
-abbrev pub textOf : List ℕ → Text
-textOf bs = puts noText bs
-
-abbrev pub bytesOf : Text → List ℕ
-bytesOf t = take (t .count) (t .bytes)
+use lib.Dec.{ltb, leb}
+use lib.ListN.{length, take, drop}
 
 -- words in ASCII
 unfoldable pub ascii : String → List ℕ
@@ -39,3 +20,13 @@ digits (suc k) n = cond (ltb n 10) ((48 + n) ∷ []) (digits k (n / 10) ++ ((48 
 -- 20 digits hold every number of 64 bits
 abbrev pub decimal : ℕ → List ℕ
 decimal n = digits 20 n
+
+-- ---- A text is put at a place of some lent bytes if the longest text of its kind has room there. Otherwise nothing is put, and the text so far ends where it did.
+
+-- where the text ends then
+unfoldable pub putEnd : ℕ → ℕ → List ℕ → List ℕ → ℕ
+putEnd room at lent text = cond (leb (at + room) (length lent)) (at + length text) at
+
+-- all lent bytes then: those before the text and those after it are as they were
+unfoldable pub putIn : ℕ → ℕ → List ℕ → List ℕ → List ℕ
+putIn room at lent text = cond (leb (at + room) (length lent)) (take at lent ++ (text ++ drop (at + length text) lent)) lent

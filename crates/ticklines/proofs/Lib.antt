@@ -1,6 +1,2 @@
-pub mod Gaps
-pub mod WholeLines
+pub mod Lengths
 pub mod Settled
-pub mod Running
-pub mod WholeRun
-pub mod WholeResponses

@@ -28,6 +28,10 @@ gapText (suc x) = ascii " "
 unfoldable pub runsText : ℕ → List CoreRun → List ℕ
 runsText m runs = row (min m 16) (λ x. gapText x ++ runnerText (getD runs x noRun .runner)) ++ ascii "\n"
 
+-- the most bytes that a tick's line can have: 16 cores of at most 21, and the line's end
+abbrev pub ranMost : ℕ
+ranMost = 337
+
 -- what a tick shows: the task on each core, or its refusal
 abbrev pub ranText : ℕ → Ran → List ℕ
 ranText m r = answerText (r .answer) (runsText m (r .runs))
@@ -38,3 +42,6 @@ tickedText m t = ranText m (ranOf t)
 -- `late 0 preemptions 4`
 unfoldable pub totalsText : State → List ℕ
 totalsText s = ascii "late " ++ (decimal (s .late) ++ (ascii " preemptions " ++ (decimal (s .preemptions) ++ ascii "\n")))
+
+abbrev pub totalsMost : ℕ
+totalsMost = 59

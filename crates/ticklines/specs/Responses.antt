@@ -13,6 +13,13 @@ use Rattle.texts.specs.Text.{ascii, decimal}
 unfoldable pub responseText : ℕ → ℕ → ℕ → List ℕ
 responseText i seen d = ascii "task " ++ (decimal i ++ (ascii " response " ++ (decimal seen ++ (ascii " deadline " ++ (decimal d ++ ascii "\n")))))
 
+-- the most bytes that such a line can have, and all of a watched run: the totals and 64 tasks
+abbrev pub responseMost : ℕ
+responseMost = 86
+
+abbrev pub watchedMost : ℕ
+watchedMost = 5563
+
 -- the totals, then the longest response seen of each task beside its deadline
 unfoldable pub watchedText : Plan → Watched → List ℕ
 watchedText p w = totalsText (w .state) ++ row (min (p .count) 64) (λ i. responseText i (getD (w .longest) i 0) (taskOf p i .deadline))

@@ -1,4 +1,4 @@
-use Rattle.texts.specs.Text.{ascii, puts}
+use Rattle.texts.specs.Text.{ascii}
 use borrow.Author.Needs.{needs}
 use Rattle.planlines.proofs.kind.Statement.{statement}
 use Rattle.planlines.proofs.kind.Tie as tie
@@ -21,13 +21,19 @@ slice-aggregate-words-2 c = search needs
 words-requires-2 : tie.Need-words-requires-2
 words-requires-2 c κs = search needs
 
+same-length : tie.Need-same-length
+same-length c = search needs
+
 returns : tie.Need-returns
-unfolding ascii puts
-returns c = simp (c .before .before .enum-told .given .1, c .words .ensures)
+unfolding ascii
+returns c = rw (c .before .before .before .before .before .enum-told .given .1) (c .before .before .words .ensures)
+
+same-length-2 : tie.Need-same-length-2
+same-length-2 c = search needs
 
 returns-2 : tie.Need-returns-2
-unfolding ascii puts
-returns-2 c = simp (c .before .before .enum-told2 .given .1, c .words2 .ensures)
+unfolding ascii
+returns-2 c = rw (c .before .before .before .before .before .enum-told2 .given .1) (c .before .before .words2 .ensures)
 
 pub kind-spec : {M : Type 1} → statement M
 kind-spec =
@@ -39,5 +45,7 @@ kind-spec =
     enum-told-2
     slice-aggregate-words-2
     words-requires-2
+    same-length
     returns
+    same-length-2
     returns-2)

@@ -1,7 +1,16 @@
-use Rattle.planlines.specs.Listing.{listerText}
+use native.Mathlib.Omega.{arith}
+use Rattle.texts.proofs.Putting.{no-room, has-room, put-short}
+use Rattle.texts.proofs.Telling.{accepted-put, refused-put}
+use Rattle.planlines.specs.Listing.{listingMost, listerText}
 use borrow.Author.Needs.{needs}
 use Rattle.planlines.proofs.lister.Statement.{statement}
 use Rattle.planlines.proofs.lister.Tie as tie
+
+short-requires : tie.Need-short-requires
+short-requires c κs = search needs
+
+returns : tie.Need-returns
+returns c = put-short _ _ _ _ (no-room (c .before .short .ensures) (c .if1 .taken))
 
 enum-told : tie.Need-enum-told
 enum-told c = search needs
@@ -15,29 +24,35 @@ planned-requires c κs = search needs
 enum-known-answer : tie.Need-enum-known-answer
 enum-known-answer c = search needs
 
-empty-requires : tie.Need-empty-requires
-empty-requires c κs = search needs
-
 refusal-requires : tie.Need-refusal-requires
 refusal-requires c κs = search needs
 
-returns : tie.Need-returns
-unfolding listerText
-returns c = simp (c .before .before .enum-told .given .1, c .planned .ensures, c .before .plan-table .ensures)
+same-length : tie.Need-same-length
+same-length c = search needs
 
 returns-2 : tie.Need-returns-2
 unfolding listerText
-returns-2 c = simp (c .before .before .before .answer .given .1, c .refusal .ensures, c .before .empty .ensures)
+returns-2 c = accepted-put _ _ _ _ listingMost (c .before .before .before .before .before .enum-told .given .1) (rw (c .before .before .before .plan-table .ensures) at (c .before .before .planned .ensures))
+
+same-length-2 : tie.Need-same-length-2
+same-length-2 c = search needs
+
+returns-3 : tie.Need-returns-3
+unfolding listerText
+returns-3 c = refused-put _ _ _ _ listingMost _ (c .before .before .before .before .before .answer .given .1) (c .before .before .refusal .ensures) (omega arith) (has-room (c .before .before .before .before .before .before .before .before .short .ensures) (c .before .before .before .before .before .before .before .if1 .left))
 
 pub lister-spec : {M : Type 1} → statement M
 lister-spec =
     tie.close
     (tie.spec
+    short-requires
+    returns
     enum-told
     plan-table-requires
     planned-requires
     enum-known-answer
-    empty-requires
     refusal-requires
-    returns
-    returns-2)
+    same-length
+    returns-2
+    same-length-2
+    returns-3)

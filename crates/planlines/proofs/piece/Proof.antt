@@ -1,9 +1,20 @@
+use mathlib.Core.List.{append-assoc}
+use Prim.Native.Nat.{_+_, _≤_}
+use native.Mathlib.Omega.{arith}
+use lib.ListN.{length}
+use Rattle.texts.proofs.Putting.{no-room, has-room, put-short, put-none, put-all, put-number, put-words, put-next}
+use Rattle.texts.specs.Text.{ascii}
 use Rattle.planlines.specs.Listing.{pieceText}
-use Rattle.texts.specs.Text.{ascii, puts}
-use Rattle.texts.proofs.Putting.{puts-parts}
+use Rattle.planlines.proofs.Lengths.{kind-few}
 use borrow.Author.Needs.{needs}
 use Rattle.planlines.proofs.piece.Statement.{statement}
 use Rattle.planlines.proofs.piece.Tie as tie
+
+short-requires : tie.Need-short-requires
+short-requires c κs = search needs
+
+returns : tie.Need-returns
+returns c = put-short _ _ _ _ (no-room (c .before .short .ensures) (c .if1 .taken))
 
 cast-number : tie.Need-cast-number
 cast-number c = search needs
@@ -38,14 +49,19 @@ slice-aggregate-words-2 c = search needs
 words-requires-2 : tie.Need-words-requires-2
 words-requires-2 c κs = search needs
 
-returns : tie.Need-returns
-unfolding pieceText ascii puts
-returns c = simp (puts-parts, c .words2 .ensures, c .before .before .number3 .ensures, c .before .before .before .before .kind .ensures, c .before .before .before .before .before .number2 .ensures, c .before .before .before .before .before .before .before .words .ensures, c .before .before .before .before .before .before .before .before .before .number .ensures)
+same-length : tie.Need-same-length
+same-length c = search needs
+
+returns-2 : tie.Need-returns-2
+unfolding pieceText ascii
+returns-2 c = let h : c .before .before .before .before .before .before .before .before .before .before .before .before .before .before .before .before .before .before .before .before .before .before .before .before .before .before .before .before .before .before .before .before .args .at + 69 ≤ length (c .before .before .before .before .before .before .before .before .before .before .before .before .before .before .before .before .before .before .before .before .before .before .before .before .before .before .before .before .before .before .before .before .args .out .now) = has-room (c .before .before .before .before .before .before .before .before .before .before .before .before .before .before .before .before .before .before .before .before .before .before .before .before .before .before .before .before .before .before .short .ensures) (c .before .before .before .before .before .before .before .before .before .before .before .before .before .before .before .before .before .before .before .before .before .before .before .before .before .before .before .before .before .if1 .left) in put-all (put-words (put-number (put-next (put-number (put-words (put-number (put-none (c .before .before .before .before .before .before .before .before .before .before .before .before .before .before .before .before .before .before .before .before .before .before .before .before .before .before .before .before .before .before .before .before .args .at) (c .before .before .before .before .before .before .before .before .before .before .before .before .before .before .before .before .before .before .before .before .before .before .before .before .before .before .before .before .before .before .before .before .args .out .now) (omega arith)) 20 _ (c .before .before .before .before .before .before .before .before .before .before .before .before .before .before .before .before .before .before .before .before .before .before .before .before .before .before .number .ensures) (omega arith) (omega arith)) 21 (ascii " ") (c .before .before .before .before .before .before .before .before .before .before .before .before .before .before .before .before .before .before .before .before .before .words .ensures) (omega arith) (omega arith)) 41 _ (c .before .before .before .before .before .before .before .before .before .before .before .before .before .before .before .before .number2 .ensures) (omega arith) (omega arith)) 48 7 _ (kind-few (c .before .before .before .before .before .before .before .before .before .before .before .before .before .before .before .before .before .before .before .before .before .before .before .before .before .before .before .before .before .before .before .before .args .piece .kind)) (c .before .before .before .before .before .before .before .before .before .before .before .before .kind .ensures) (omega arith) (omega arith)) 68 _ (c .before .before .before .before .before .before .before .number3 .ensures) (omega arith) (omega arith)) 69 (ascii "\n") (c .before .before .words2 .ensures) (omega arith) (omega arith)) _ (simp append-assoc) 69 h
 
 pub piece-spec : {M : Type 1} → statement M
 piece-spec =
     tie.close
     (tie.spec
+    short-requires
+    returns
     cast-number
     number-requires
     slice-aggregate-words
@@ -57,4 +73,5 @@ piece-spec =
     number-requires-3
     slice-aggregate-words-2
     words-requires-2
-    returns)
+    same-length
+    returns-2)

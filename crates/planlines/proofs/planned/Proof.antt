@@ -1,9 +1,16 @@
+use native.Mathlib.Omega.{arith}
+use Rattle.texts.proofs.Putting.{no-room, has-room, put-short}
+use Rattle.texts.proofs.Telling.{accepted-put, refused-put}
+use Rattle.planlines.specs.Listing.{listingMost}
 use borrow.Author.Needs.{needs}
 use Rattle.planlines.proofs.planned.Statement.{statement}
 use Rattle.planlines.proofs.planned.Tie as tie
 
-empty-requires : tie.Need-empty-requires
-empty-requires c κs = search needs
+short-requires : tie.Need-short-requires
+short-requires c κs = search needs
+
+returns : tie.Need-returns
+returns c = put-short _ _ _ _ (no-room (c .before .short .ensures) (c .if1 .taken))
 
 enum-told : tie.Need-enum-told
 enum-told c = search needs
@@ -17,20 +24,29 @@ enum-known-answer c = search needs
 refusal-requires : tie.Need-refusal-requires
 refusal-requires c κs = search needs
 
-returns : tie.Need-returns
-returns c = simp (c .before .enum-told .given .1, c .listing .ensures, c .before .before .before .empty .ensures)
+same-length : tie.Need-same-length
+same-length c = search needs
 
 returns-2 : tie.Need-returns-2
-returns-2 c = simp (c .before .before .answer .given .1, c .refusal .ensures, c .before .before .before .before .empty .ensures)
+returns-2 c = accepted-put _ _ _ _ listingMost (c .before .before .before .before .enum-told .given .1) (c .before .before .listing .ensures)
+
+same-length-2 : tie.Need-same-length-2
+same-length-2 c = search needs
+
+returns-3 : tie.Need-returns-3
+returns-3 c = refused-put _ _ _ _ listingMost _ (c .before .before .before .before .before .answer .given .1) (c .before .before .refusal .ensures) (omega arith) (has-room (c .before .before .before .before .before .before .before .before .short .ensures) (c .before .before .before .before .before .before .before .if1 .left))
 
 pub planned-spec : {M : Type 1} → statement M
 planned-spec =
     tie.close
     (tie.spec
-    empty-requires
+    short-requires
+    returns
     enum-told
     listing-requires
     enum-known-answer
     refusal-requires
-    returns
-    returns-2)
+    same-length
+    returns-2
+    same-length-2
+    returns-3)

@@ -1,6 +1,16 @@
+use native.Mathlib.Omega.{arith}
+use Rattle.texts.proofs.Putting.{no-room, has-room, put-short}
+use Rattle.texts.proofs.Telling.{accepted-put, refused-put}
+use Rattle.ticklines.specs.Lines.{ranMost}
 use borrow.Author.Needs.{needs}
 use Rattle.ticklines.proofs.ran.Statement.{statement}
 use Rattle.ticklines.proofs.ran.Tie as tie
+
+short-requires : tie.Need-short-requires
+short-requires c κs = search needs
+
+returns : tie.Need-returns
+returns c = put-short _ _ _ _ (no-room (c .before .short .ensures) (c .if1 .taken))
 
 enum-told : tie.Need-enum-told
 enum-told c = search needs
@@ -14,13 +24,29 @@ enum-known-answer c = search needs
 refusal-requires : tie.Need-refusal-requires
 refusal-requires c κs = search needs
 
-returns : tie.Need-returns
-returns c = simp (c .before .enum-told .given .1, c .runs .ensures)
+same-length : tie.Need-same-length
+same-length c = search needs
 
 returns-2 : tie.Need-returns-2
-returns-2 c = simp (c .before .before .answer .given .1, c .refusal .ensures)
+returns-2 c = accepted-put _ _ _ _ ranMost (c .before .before .before .before .enum-told .given .1) (c .before .before .runs .ensures)
+
+same-length-2 : tie.Need-same-length-2
+same-length-2 c = search needs
+
+returns-3 : tie.Need-returns-3
+returns-3 c = refused-put _ _ _ _ ranMost _ (c .before .before .before .before .before .answer .given .1) (c .before .before .refusal .ensures) (omega arith) (has-room (c .before .before .before .before .before .before .before .before .short .ensures) (c .before .before .before .before .before .before .before .if1 .left))
 
 pub ran-spec : {M : Type 1} → statement M
 ran-spec =
     tie.close
-    (tie.spec enum-told runs-requires enum-known-answer refusal-requires returns returns-2)
+    (tie.spec
+    short-requires
+    returns
+    enum-told
+    runs-requires
+    enum-known-answer
+    refusal-requires
+    same-length
+    returns-2
+    same-length-2
+    returns-3)

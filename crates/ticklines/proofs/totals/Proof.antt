@@ -1,9 +1,19 @@
-use Rattle.ticklines.specs.Lines.{totalsText}
+use mathlib.Core.List.{append-assoc}
+use Prim.Native.Nat.{_+_, _≤_}
+use native.Mathlib.Omega.{arith}
+use lib.ListN.{length}
+use Rattle.texts.proofs.Putting.{no-room, has-room, put-short, put-none, put-all, put-number, put-words}
 use Rattle.texts.specs.Text.{ascii}
-use Rattle.texts.proofs.Putting.{puts-parts}
+use Rattle.ticklines.specs.Lines.{totalsText}
 use borrow.Author.Needs.{needs}
 use Rattle.ticklines.proofs.totals.Statement.{statement}
 use Rattle.ticklines.proofs.totals.Tie as tie
+
+short-requires : tie.Need-short-requires
+short-requires c κs = search needs
+
+returns : tie.Need-returns
+returns c = put-short _ _ _ _ (no-room (c .before .short .ensures) (c .if1 .taken))
 
 slice-aggregate-words : tie.Need-slice-aggregate-words
 slice-aggregate-words c = search needs
@@ -35,14 +45,19 @@ slice-aggregate-words-3 c = search needs
 words-requires-3 : tie.Need-words-requires-3
 words-requires-3 c κs = search needs
 
-returns : tie.Need-returns
+same-length : tie.Need-same-length
+same-length c = search needs
+
+returns-2 : tie.Need-returns-2
 unfolding totalsText ascii
-returns c = simp (puts-parts, c .words3 .ensures, c .before .before .number2 .ensures, c .before .before .before .before .words2 .ensures, c .before .before .before .before .before .before .number .ensures, c .before .before .before .before .before .before .before .before .words .ensures)
+returns-2 c = let h : c .before .before .before .before .before .before .before .before .before .before .before .before .before .before .before .before .before .before .before .before .before .before .before .before .before .before .before .before .args .at + 59 ≤ length (c .before .before .before .before .before .before .before .before .before .before .before .before .before .before .before .before .before .before .before .before .before .before .before .before .before .before .before .before .args .out .now) = has-room (c .before .before .before .before .before .before .before .before .before .before .before .before .before .before .before .before .before .before .before .before .before .before .before .before .before .before .short .ensures) (c .before .before .before .before .before .before .before .before .before .before .before .before .before .before .before .before .before .before .before .before .before .before .before .before .before .if1 .left) in put-all (put-words (put-number (put-words (put-number (put-words (put-none (c .before .before .before .before .before .before .before .before .before .before .before .before .before .before .before .before .before .before .before .before .before .before .before .before .before .before .before .before .args .at) (c .before .before .before .before .before .before .before .before .before .before .before .before .before .before .before .before .before .before .before .before .before .before .before .before .before .before .before .before .args .out .now) (omega arith)) 5 (ascii "late ") (c .before .before .before .before .before .before .before .before .before .before .before .before .before .before .before .before .before .before .before .before .before .before .words .ensures) (omega arith) (omega arith)) 25 _ (c .before .before .before .before .before .before .before .before .before .before .before .before .before .before .before .before .before .number .ensures) (omega arith) (omega arith)) 38 (ascii " preemptions ") (c .before .before .before .before .before .before .before .before .before .before .before .before .words2 .ensures) (omega arith) (omega arith)) 58 _ (c .before .before .before .before .before .before .before .number2 .ensures) (omega arith) (omega arith)) 59 (ascii "\n") (c .before .before .words3 .ensures) (omega arith) (omega arith)) _ (simp append-assoc) 59 h
 
 pub totals-spec : {M : Type 1} → statement M
 totals-spec =
     tie.close
     (tie.spec
+    short-requires
+    returns
     slice-aggregate-words
     words-requires
     cast-number
@@ -53,4 +68,5 @@ totals-spec =
     number-requires-2
     slice-aggregate-words-3
     words-requires-3
-    returns)
+    same-length
+    returns-2)
