@@ -16,7 +16,6 @@ use tasks::CoreNo;
 use tasks::Table;
 use tasks::Task;
 use tasks::TaskNo;
-use texts::Text;
 use writing::Written;
 
 // The number of no task.
@@ -30,7 +29,7 @@ fn say_answer(words: &[u8], answer: Answer) {
     say(words);
     match answer {
         Answer::Accepted => say(b"accepted\n"),
-        Answer::Refused(refusal) => console::print(texts::refusal(Text::empty(), refusal)),
+        Answer::Refused(refusal) => console::print_refusal(refusal),
     }
 }
 
@@ -46,7 +45,7 @@ fn say_written(words: &[u8], written: Written) {
             io::print_decimal(STDOUT_FILENO, length as u64);
             say(b" bytes\n");
         }
-        Written::Refused(refusal) => console::print(texts::refusal(Text::empty(), refusal)),
+        Written::Refused(refusal) => console::print_refusal(refusal),
     }
 }
 
@@ -114,7 +113,9 @@ fn counts() {
 // If the core count is absent, it is 4.
 fn cores() {
     say(b"no core count: ");
-    console::print(planlines::lister(fed(1)));
+    let mut text = [0u8; 16384];
+    let n = planlines::lister(&mut text, 0, fed(1));
+    console::print(&text, n);
 }
 
 // A table file for two cores and one task is 19 bytes, and the byte past them stays as it was.
@@ -135,7 +136,9 @@ fn reading_back(plan: Plan) {
     let written = writing::write_plan(plan, &mut file);
     say_written(b"a plan file: ", written);
     if let Written::Length(length) = written {
-        console::print(ticklines::runner(console::plan_in(&file, length)));
+        let mut text = [0u8; 16384];
+        let n = ticklines::runner(&mut text, 0, console::plan_in(&file, length));
+        console::print(&text, n);
     }
 }
 
@@ -148,7 +151,7 @@ fn in_force<'a>(words: &'a [u8], own: &'a [u8], shipped: &'a [u8]) {
     match force::which_in_force(own, shipped) {
         InForce::Own => say(b"the machine's own\n"),
         InForce::Shipped => say(b"the shipped ones\n"),
-        InForce::Neither(refusal) => console::print(texts::refusal(Text::empty(), refusal)),
+        InForce::Neither(refusal) => console::print_refusal(refusal),
     }
 }
 
@@ -205,7 +208,9 @@ fn tick(words: &[u8], plan: Plan, state: State, finished: u8, released: u8) {
     let ticked = dispatch::tick(plan, state, only(finished), only(released));
     let answer = ticked.answer;
     let runs = ticked.runs;
-    console::print(ticklines::ran(Text::empty(), plan.cores, Ran { answer, runs }));
+    let mut line = [0u8; 337];
+    let n = ticklines::ran(&mut line, 0, plan.cores, Ran { answer, runs });
+    console::print(&line, n);
 }
 
 // What a tick is refused with.
@@ -241,14 +246,16 @@ fn ticks(plan: Plan) {
     tick(b"a task never released of age 1: ", plan, aged, NONE, NONE);
     say(b"after 40 ticks at full rate: ");
     let seen = fullrate::watch(plan, 40);
-    console::print(ticklines::totals(Text::empty(), seen.state));
+    let mut line = [0u8; 59];
+    let n = ticklines::totals(&mut line, 0, seen.state);
+    console::print(&line, n);
 }
 
 // The bound asked from outside.
 fn bounds(plan: Plan) {
     say(b"the bound of a piece past the list: ");
     if let Bounding::Refused(refusal) = bounds::ask_bound(plan, 2) {
-        console::print(texts::refusal(Text::empty(), refusal));
+        console::print_refusal(refusal);
     }
 }
 

@@ -1,4 +1,4 @@
-// Standard input and standard output of the programs: files that come in parts are read to their end, and texts are printed.
+// Standard input and standard output of the programs: files that come in parts are read to their end, and what is put into lent bytes is printed.
 // A read that fails counts as the end of the input.
 ghost use mathlib.Core.Path.{_≡_};
 ghost use lib.ListN.{take};
@@ -8,7 +8,7 @@ use files::ReadTable;
 use files::Reader;
 use libc::STDIN_FILENO;
 use libc::STDOUT_FILENO;
-use texts::Text;
+use tasks::Refusal;
 
 // A reader after one more part, and whether the input may go on.
 struct Fed {
@@ -59,11 +59,18 @@ pub fn plan_in(bytes: &[u8], n: usize) -> ReadPlan
     files::read_plan(&bytes[..n])
 }
 
-// Prints a text.
-pub fn print(text: Text) {
-    let n = text.count;
-    let bytes = text.bytes;
-    if n <= 9216 {
-        io::write_all(STDOUT_FILENO, &bytes[..n]);
+// Prints the first n bytes of a buffer, or all that it has.
+pub fn print(bytes: &[u8], n: usize) {
+    if bytes.len() < n {
+        io::write_all(STDOUT_FILENO, bytes);
+        return;
     }
+    io::write_all(STDOUT_FILENO, &bytes[..n]);
+}
+
+// Prints a refusal's line.
+pub fn print_refusal(refusal: Refusal) {
+    let mut line = [0u8; 56];
+    let n = texts::refusal(&mut line, 0, refusal);
+    print(&line, n);
 }

@@ -1,5 +1,8 @@
 // The plan lister: reads a table file from standard input and prints its plan, or why there is none.
 
+// The lent bytes have room for every listing.
 fn main() {
-    console::print(planlines::lister(console::read_table()));
+    let mut text = [0u8; 16384];
+    let n = planlines::lister(&mut text, 0, console::read_table());
+    console::print(&text, n);
 }

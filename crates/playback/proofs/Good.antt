@@ -71,3 +71,26 @@ module _ (s : List ℕ) (g : Good s) where
 
     pub released-on : releasedIn (s ++ more) ≡ releasedIn s
     released-on = ap (λ (n : ℕ). tasksAt (s ++ more) (1 + n)) same-finishes ∙ same-tasks (1 + finishes s) (omega (arith, g .whole, size-is s))
+
+-- so many bytes that every good request is whole: what is refused is refused whatever bytes come after it
+pub full-same : (s more : List ℕ) (x : Place) → 130 ≤ length s → (requestAnswer s x ≡ Accepted → ⊥) → requestAnswer (s ++ more) x ≡ requestAnswer s x
+unfolding requestAnswer
+full-same s more x h refused = go _ refl _ refl
+  where
+    same : (i : ℕ) → i < length s → getD (s ++ more) i 0 ≡ getD s i 0
+    same i l = List·getD-append s more 0 i l
+
+    first : finishes (s ++ more) ≡ finishes s
+    first = same 0 (omega arith)
+
+    go : (a : Bool) → ltb 64 (finishes s) ≡ a → (b : Bool) → ltb 64 (releases s) ≡ b
+        → cond (ltb 64 (finishes (s ++ more)) || ltb 64 (releases (s ++ more))) (Refused (WrongLength x)) (cond (ltb (length (s ++ more)) (requestSize (s ++ more))) (Refused (CutShort x)) Accepted)
+        ≡ cond (ltb 64 (finishes s) || ltb 64 (releases s)) (Refused (WrongLength x)) (cond (ltb (length s) (requestSize s)) (Refused (CutShort x)) Accepted)
+    go true p b q = rw (first, p)
+    go false p true q =
+        let next : releases (s ++ more) ≡ releases s = ap (λ (n : ℕ). getD (s ++ more) (1 + n) 0) first ∙ same (1 + finishes s) (omega (arith, ltb-false 64 (finishes s) p)) in
+        rw (next, first, p, q)
+    go false p false q =
+        let f : finishes s ≤ 64 = ltb-false 64 (finishes s) p in
+        let r : releases s ≤ 64 = ltb-false 64 (releases s) q in
+        absurd (refused (good-accepted s record { finishing = f; releasing = r; whole = omega (arith, size-is s) } x))

@@ -1,12 +1,13 @@
 -- A replay in parts is the replay of the whole: what is played of the bytes at hand is what the whole input prints first, and the rest comes after it.
 use mathlib.Core.Path.{_≡_, refl, sym, ap, _∙_}
 use mathlib.Core.Bool.{Bool, true, false, cond}
-use mathlib.Core.List.{List, [], _∷_, _++_, append-assoc}
+use mathlib.Core.Logic.{_⊎_, inl, inr, ⊎-elim}
+use mathlib.Core.List.{List, [], _∷_, _++_, append-assoc, append-nil}
 use Prim.Native.Nat.{ℕ, zero, suc, _+_, _-_, _*_, _≤_, _<_, min}
 use native.Mathlib.Nat.{zero-add}
 use native.Mathlib.Omega.{arith}
-use borrow.Author.Tests.{le-ltb, lt-leb}
-use lib.Dec.{leb}
+use borrow.Author.Tests.{le-ltb, le-leb, lt-leb, ltb-true, ltb-false}
+use lib.Dec.{ltb, leb}
 use lib.ListN.{length, getD, take, drop, length-append, length-take, length-drop}
 use lib.Seq.{drop-append-le, ext-getD, getD-take, take-at, drop-at, drop-drop}
 use Rattle.tasks.specs.Below.{padded}
@@ -15,37 +16,29 @@ use Rattle.tasks.specs.declared.Answer.{Answer}
 use Rattle.tasks.specs.declared.Answer.the-variants.{Accepted, Refused}
 use Rattle.plans.specs.declared.Plan.{Plan}
 use Rattle.dispatch.specs.declared.State.{State}
-use Rattle.ticklines.specs.Lines.{totalsText}
-use Rattle.texts.specs.Text.{textOf}
+use Rattle.ticklines.specs.Lines.{ranMost, totalsText}
 use Rattle.tasks.specs.Places.{placeAt, further}
 use Rattle.tasks.proofs.Places.{further-is}
 use Rattle.files.specs.Files.{planRead}
 use Rattle.playback.specs.Requests.{requestSize, requestAnswer}
-use Rattle.playback.specs.Replay.{closed, ticksText, told, replayText, Standing, next, played, wholes, standing, playedOn}
-use Rattle.playback.specs.Players.{start, atHand, lastAnswer}
+use Rattle.playback.specs.Replay.{closed, ticksText, told, replayText, Standing, next, playedIn, beginning, playedFrom, standing, playedOn, Parts, reads, plays, ends}
+use Rattle.playback.specs.Players.{held, start, atHand, lastAnswer}
 use Rattle.playback.specs.declared.Player.{Player}
-use Rattle.playback.proofs.Course.{wholes-none, wholes-more, wholes-zero}
-use Rattle.playback.proofs.Good.{Good, accepted-good, good-accepted, good-on, finished-on, released-on, size-is, size-on}
+use Rattle.playback.proofs.Course.{played-more, played-short, played-stuck}
+use Rattle.playback.proofs.Good.{Good, accepted-good, good-accepted, good-on, finished-on, released-on, size-is, size-on, full-same}
+
+-- ---- some requests played
+
+-- what is printed from z on is what y has printed more, and what is printed from there on; each tick has a byte at least
+pub record Runs (p : Plan) (z y : Standing) : Type 0 where
+  pub ticks : ℕ
+  pub shorter : ticks + length (y .left) ≤ length (z .left)
+  pub prints : (k n : ℕ) (more : List ℕ) → z .said ++ ticksText (ticks + k) p n (z .state) (z .left ++ more) ≡ y .said ++ ticksText k p (n + (length (z .left) - length (y .left))) (y .state) (y .left ++ more)
 
 module _ (p : Plan) where
-  -- the first request first, or the last one last
-  played-first : (n : ℕ) (z : Standing) → played p (suc n) z ≡ played p n (next p z)
-  unfolding played
-  played-first zero z = refl
-  played-first (suc n) z = ap (next p) (played-first n z)
-
-  played-none : (z : Standing) → played p 0 z ≡ z
-  unfolding played
-  played-none z = refl
-
   next-left : (z : Standing) → next p z .left ≡ drop (requestSize (z .left)) (z .left)
   unfolding next
   next-left z = refl
-
-  shorter : (n : ℕ) (z : Standing) → length (played p n z .left) ≤ length (z .left)
-  unfolding played
-  shorter zero z = omega arith
-  shorter (suc n) z = omega (arith, ap length (next-left (played p n z)), length-drop (requestSize (played p n z .left)) (played p n z .left), shorter n z)
 
   -- one request of the whole input
   first-ticks : (k n : ℕ) (z : Standing) (more : List ℕ) → Good (z .left) → z .said ++ ticksText (suc k) p n (z .state) (z .left ++ more) ≡ next p z .said ++ ticksText k p (n + requestSize (z .left)) (next p z .state) (next p z .left ++ more)
@@ -57,108 +50,133 @@ module _ (p : Plan) where
       let rest : drop (requestSize (z .left)) (z .left ++ more) ≡ drop (requestSize (z .left)) (z .left) ++ more = drop-append-le (requestSize (z .left)) (z .left) more (g .whole) in
       rw (lt-leb (length (z .left ++ more)) 0 long, yes, finished-on (z .left) g more, released-on (z .left) g more, size, rest) (sym (append-assoc (z .said) _ _))
 
-  none-played : (k n : ℕ) (z : Standing) (more : List ℕ) (m : ℕ) → m ≡ 0
-      → z .said ++ ticksText (m + k) p n (z .state) (z .left ++ more)
-      ≡ played p m z .said ++ ticksText k p (n + (length (z .left) - length (played p m z .left))) (played p m z .state) (played p m z .left ++ more)
-  none-played k n z more m e = let same : n + (length (z .left) - length (z .left)) ≡ n = omega arith in rw (e, zero-add k, played-none z, same)
-
-  -- all whole requests at the beginning of some bytes, whatever comes after these
-  pub in-parts : (j k n : ℕ) (z : Standing) (more : List ℕ) (m : ℕ) → m ≡ wholes j (z .left)
-      → z .said ++ ticksText (m + k) p n (z .state) (z .left ++ more)
-      ≡ played p m z .said ++ ticksText k p (n + (length (z .left) - length (played p m z .left))) (played p m z .state) (played p m z .left ++ more)
-  in-parts zero k n z more m e = none-played k n z more m (e ∙ wholes-zero (z .left))
-  in-parts (suc j) k n z more m e = go _ refl (in-parts j k (n + requestSize (z .left)) (next p z) more (wholes j (next p z .left)) refl)
+  runs-none : (z y : Standing) → y ≡ z → Runs p z y
+  runs-none z y e = rw e record { ticks = 0; shorter = omega arith; prints = λ k n more. rw (zero-add k, same n) }
     where
-      r : ℕ
-      r = wholes j (next p z .left)
+      same : (n : ℕ) → n + (length (z .left) - length (z .left)) ≡ n
+      same n = omega arith
 
-      go : (a : Answer) → requestAnswer (z .left) (placeAt 0) ≡ a
-          → next p z .said ++ ticksText (r + k) p (n + requestSize (z .left)) (next p z .state) (next p z .left ++ more)
-          ≡ played p r (next p z) .said ++ ticksText k p (n + requestSize (z .left) + (length (next p z .left) - length (played p r (next p z) .left))) (played p r (next p z) .state) (played p r (next p z) .left ++ more)
-          → z .said ++ ticksText (m + k) p n (z .state) (z .left ++ more)
-          ≡ played p m z .said ++ ticksText k p (n + (length (z .left) - length (played p m z .left))) (played p m z .state) (played p m z .left ++ more)
-      go (Refused x) q ih = none-played k n z more m (e ∙ wholes-none j (z .left) x q)
-      go Accepted q ih =
-          let g : Good (z .left) = accepted-good (z .left) (placeAt 0) q in
-          let f : m ≡ suc r = e ∙ wholes-more j (z .left) q ∙ ap (λ (l : List ℕ). suc (wholes j l)) (sym (next-left z)) in
-          let one : suc r + k ≡ suc (r + k) = omega arith in
-          let far : n + requestSize (z .left) + (length (next p z .left) - length (played p r (next p z) .left)) ≡ n + (length (z .left) - length (played p r (next p z) .left)) =
-          omega (arith, ap length (next-left z), length-drop (requestSize (z .left)) (z .left), size-is (z .left), g .whole, shorter r (next p z)) in
-          rw (f, one, played-first r z, ← far) (first-ticks (r + k) n z more g ∙ ih)
-
-  -- no whole request is left, the bytes at hand being at most 2 j
-  pub all-played : (j k : ℕ) (z : Standing) (m : ℕ) → length (z .left) ≤ 2 * j → m ≡ wholes j (z .left) → wholes k (played p m z .left) ≡ 0
-  all-played j zero z m h e = wholes-zero _
-  all-played zero (suc k) z m h e = rw (e, wholes-zero (z .left), played-none z) (go _ refl)
+  runs-first : (z y : Standing) → Good (z .left) → Runs p (next p z) y → Runs p z y
+  runs-first z y g r = record {
+    ticks = suc (r .ticks);
+    shorter = omega (arith, ap length (next-left z), length-drop (requestSize (z .left)) (z .left), size-is (z .left), g .whole, r .shorter);
+    prints = λ k n more. rw (suc-sum k, ← far n) (first-ticks (r .ticks + k) n z more g ∙ r .prints k (n + requestSize (z .left)) more);
+  }
     where
-      go : (a : Answer) → requestAnswer (z .left) (placeAt 0) ≡ a → wholes (suc k) (z .left) ≡ 0
-      go (Refused x) q = wholes-none k (z .left) x q
-      go Accepted q = absurd (omega (arith, size-is (z .left), accepted-good (z .left) (placeAt 0) q .whole))
-  all-played (suc j) (suc k) z m h e = go _ refl (λ l. all-played j (suc k) (next p z) (wholes j (next p z .left)) l refl)
-    where
-      r : ℕ
-      r = wholes j (next p z .left)
+      suc-sum : (k : ℕ) → suc (r .ticks) + k ≡ suc (r .ticks + k)
+      suc-sum k = omega arith
 
-      go : (a : Answer) → requestAnswer (z .left) (placeAt 0) ≡ a → (length (next p z .left) ≤ 2 * j → wholes (suc k) (played p r (next p z) .left) ≡ 0) → wholes (suc k) (played p m z .left) ≡ 0
-      go (Refused x) q ih = rw (e, wholes-none j (z .left) x q, played-none z) (wholes-none k (z .left) x q)
-      go Accepted q ih =
-          let g : Good (z .left) = accepted-good (z .left) (placeAt 0) q in
-          let f : m ≡ suc r = e ∙ wholes-more j (z .left) q ∙ ap (λ (l : List ℕ). suc (wholes j l)) (sym (next-left z)) in
-          rw (f, played-first r z) (ih (omega (arith, ap length (next-left z), length-drop (requestSize (z .left)) (z .left), size-is (z .left), g .whole)))
+      far : (n : ℕ) → n + requestSize (z .left) + (length (next p z .left) - length (y .left)) ≡ n + (length (z .left) - length (y .left))
+      far n = omega (arith, ap length (next-left z), length-drop (requestSize (z .left)) (z .left), size-is (z .left), g .whole, r .shorter)
 
-  -- at the end of the input what is left is no whole request: its refusal, if there is one, and the totals
-  pub at-end : (k n : ℕ) (s : State) (bs : List ℕ) → wholes 1 bs ≡ 0 → ticksText (suc k) p n s bs ≡ cond (leb (length bs) 0) (totalsText s) (closed (requestAnswer bs (placeAt n)) s (totalsText s))
-  unfolding ticksText
-  at-end k n s bs h = go _ refl
+  -- as many requests as there is room for, at the beginning of some bytes, whatever comes after these
+  runs-on : (j room : ℕ) (z : Standing) → Runs p z (playedIn j p room z)
+  unfolding playedIn
+  runs-on zero room z = runs-none z z refl
+  runs-on (suc j) room z = go _ refl _ refl (runs-on j room (next p z))
     where
-      go : (a : Answer) → requestAnswer bs (placeAt n) ≡ a → ticksText (suc k) p n s bs ≡ cond (leb (length bs) 0) (totalsText s) (closed (requestAnswer bs (placeAt n)) s (totalsText s))
-      go (Refused x) q = rw q
-      go Accepted q =
-          let g : Good bs = accepted-good bs (placeAt n) q in
-          let one : wholes 1 bs ≡ suc (wholes 0 (drop (requestSize bs) bs)) = wholes-more 0 bs (good-accepted bs g (placeAt 0)) in
-          absurd (omega (arith, one, h))
+      go : (b : Bool) → ltb room (length (z .said) + ranMost) ≡ b → (a : Answer) → requestAnswer (z .left) (placeAt 0) ≡ a → Runs p (next p z) (playedIn j p room (next p z)) → Runs p z (playedIn (suc j) p room z)
+      go true q a e r = runs-none z _ (played-short p room z (suc j) (ltb-true room _ q))
+      go false q (Refused x) e r = runs-none z _ (played-stuck p room z (suc j) x e)
+      go false q Accepted e r = rw (played-more p room z j (ltb-false room _ q) e) (runs-first z _ (accepted-good (z .left) (placeAt 0) e) r)
+
+  -- then no whole request is left, or the room is short of a longest line
+  abbrev Stops : ℕ → Standing → Type 0
+  Stops room y = (requestAnswer (y .left) (placeAt 0) ≡ Accepted → ⊥) ⊎ (room < length (y .said) + ranMost)
+
+  stops : (j room : ℕ) (z : Standing) → length (z .left) ≤ j → Stops room (playedIn j p room z)
+  unfolding playedIn
+  stops zero room z h = inl (λ e. omega (arith, size-is (z .left), accepted-good (z .left) (placeAt 0) e .whole))
+  stops (suc j) room z h = go _ refl _ refl (stops j room (next p z))
+    where
+      go : (b : Bool) → ltb room (length (z .said) + ranMost) ≡ b → (a : Answer) → requestAnswer (z .left) (placeAt 0) ≡ a → (length (next p z .left) ≤ j → Stops room (playedIn j p room (next p z))) → Stops room (playedIn (suc j) p room z)
+      go true q a e r = rw (played-short p room z (suc j) (ltb-true room _ q)) (inr (ltb-true room _ q))
+      go false q (Refused x) e r = rw (played-stuck p room z (suc j) x e) (inl (λ f. let n : _≡_ {A = ℕ} 0 1 = cc in omega arith))
+      go false q Accepted e r =
+          let g : Good (z .left) = accepted-good (z .left) (placeAt 0) e in
+          rw (played-more p room z j (ltb-false room _ q) e) (r (omega (arith, ap length (next-left z), length-drop (requestSize (z .left)) (z .left), size-is (z .left), g .whole)))
+
+-- ---- one part of the input
 
 -- what is left at the beginning of a player's bytes is what is at hand
-kept-left : (l : List ℕ) → length l ≤ 160 → take (min (length l) 160) (padded 160 (length l) 0 (λ i. getD l i 0)) ≡ l
-kept-left l h = ext-getD 0 _ l long (λ i b. getD-take (min (length l) 160) _ i 0 (omega (arith, long)) ∙ padded-in 160 0 (length l) _ i (omega (arith, long)) (omega (arith, long)))
+kept-left : (l : List ℕ) → length l ≤ held → take (min (length l) held) (padded held (length l) 0 (λ i. getD l i 0)) ≡ l
+kept-left l h = ext-getD 0 _ l long (λ i b. getD-take (min (length l) held) _ i 0 (omega (arith, long)) ∙ padded-in held 0 (length l) _ i (omega (arith, long)) (omega (arith, long)))
   where
-    long : length (take (min (length l) 160) (padded 160 (length l) 0 (λ i. getD l i 0))) ≡ length l
-    long = length-take (min (length l) 160) _ ∙ omega (arith, padded-length 160 0 (length l) (λ i. getD l i 0))
+    long : length (take (min (length l) held) (padded held (length l) 0 (λ i. getD l i 0))) ≡ length l
+    long = length-take (min (length l) held) _ ∙ omega (arith, padded-length held 0 (length l) (λ i. getD l i 0))
 
--- one part of the input: the player's text is what the input prints next, the player then stands where the input goes on, and no whole request is left at hand
-pub record GoesOn (p : Plan) (w v : Player) (k : ℕ) (more : List ℕ) : Type 0 where
-  pub said : List ℕ
-  pub text : v .text ≡ textOf said
-  pub prints : ticksText (wholes 80 (atHand w) + k) p (w .place) (w .state) (atHand w ++ more) ≡ said ++ ticksText k p (v .place) (v .state) (atHand v ++ more)
-  pub no-more : (j : ℕ) → wholes j (atHand v) ≡ 0
+-- one part: what is played is what the input prints next, the player v then stands where the input goes on, and no whole request is left at hand or the room was short of one longest line
+pub record GoesOn (p : Plan) (w v : Player) (said : List ℕ) (room : ℕ) : Type 0 where
+  pub ticks : ℕ
+  pub shorter : ticks + length (atHand v) ≤ length (atHand w)
+  pub stands : v .place + length (atHand v) ≡ w .place + length (atHand w)
+  pub prints : (k : ℕ) (more : List ℕ) → ticksText (ticks + k) p (w .place) (w .state) (atHand w ++ more) ≡ said ++ ticksText k p (v .place) (v .state) (atHand v ++ more)
+  pub no-more : (requestAnswer (atHand v) (placeAt 0) ≡ Accepted → ⊥) ⊎ (room < length said + ranMost)
 
-goes-on-from : (p : Plan) (w : Player) (k : ℕ) (more : List ℕ) (z : Standing) → played p (wholes 80 (atHand w)) (record { state = w .state; left = atHand w; said = [] }) ≡ z → w .place + length (atHand w) ≤ 18446744073709551615
-    → GoesOn p w (standing w z) k more
-goes-on-from p w k more z e far =
-    let begins : Standing = record { state = w .state; left = atHand w; said = [] } in
-    let few : length (z .left) ≤ length (atHand w) = rw (← e) (shorter p (wholes 80 (atHand w)) begins) in
-    let small : length (atHand w) ≤ 160 = omega (arith, length-take (min (w .count) 160) (w .bytes)) in
-    let hand : atHand (standing w z) ≡ z .left = kept-left (z .left) (omega arith) in
-    let there : further (w .place) (length (atHand w) - length (z .left)) ≡ w .place + (length (atHand w) - length (z .left)) = further-is (w .place) _ (omega arith) in
-    record {
-      said = z .said;
-      text = refl;
-      prints = rw (hand, there, ← e) (in-parts p 80 k (w .place) begins more (wholes 80 (atHand w)) refl);
-      no-more = λ j. rw (hand, ← e) (all-played p 80 j begins (wholes 80 (atHand w)) (omega arith) refl);
-    }
+pub goes-on : (p : Plan) (w : Player) (room : ℕ) → w .place + length (atHand w) ≤ 18446744073709551615 → GoesOn p w (playedOn p w room .player) (playedFrom p w room .said) room
+unfolding playedFrom
+goes-on p w room far = go (playedIn (length (atHand w)) p room (beginning (w .state) (atHand w))) (runs-on p (length (atHand w)) room (beginning (w .state) (atHand w))) (stops p (length (atHand w)) room (beginning (w .state) (atHand w)) (omega arith))
+  where
+    go : (z : Standing) → Runs p (beginning (w .state) (atHand w)) z → Stops p room z → GoesOn p w (standing w z) (z .said) room
+    go z r s =
+        let small : length (atHand w) ≤ held = omega (arith, length-take (min (w .count) held) (w .bytes)) in
+        let hand : atHand (standing w z) ≡ z .left = kept-left (z .left) (omega (arith, r .shorter)) in
+        let there : further (w .place) (length (atHand w) - length (z .left)) ≡ w .place + (length (atHand w) - length (z .left)) = further-is (w .place) _ (omega arith) in
+        record {
+          ticks = r .ticks;
+          shorter = rw hand (r .shorter);
+          stands = rw (hand, there) (omega (arith, r .shorter));
+          prints = λ k more. rw (hand, there) (r .prints k (w .place) more);
+          no-more = rw hand s;
+        }
 
-pub goes-on : (p : Plan) (w : Player) (k : ℕ) (more : List ℕ) → w .place + length (atHand w) ≤ 18446744073709551615 → GoesOn p w (playedOn p w) k more
-unfolding playedOn
-goes-on p w k more far = goes-on-from p w k more _ refl far
+-- a longest line had room, and nothing was printed: no whole request is left
+pub nothing-left : (p : Plan) (w : Player) (room : ℕ) → w .place + length (atHand w) ≤ 18446744073709551615 → ranMost ≤ room → playedOn p w room .length ≡ 0 → requestAnswer (atHand (playedOn p w room .player)) (placeAt 0) ≡ Accepted → ⊥
+nothing-left p w room far h none = ⊎-elim (λ never. never) (λ l e. omega arith) (goes-on p w room far .no-more)
 
--- at the end of the input a player's last answer and the totals are what the input still prints
-pub ends : (p : Plan) (w : Player) (k : ℕ) → wholes 1 (atHand w) ≡ 0 → ticksText (suc k) p (w .place) (w .state) (atHand w) ≡ closed (lastAnswer w) (w .state) (totalsText (w .state))
+-- ---- the end of the input
+
+-- what is left is no whole request: its refusal, if there is one, and the totals
+at-end : (p : Plan) (k n : ℕ) (s : State) (bs : List ℕ) → length bs ≤ k → (requestAnswer bs (placeAt 0) ≡ Accepted → ⊥) → ticksText k p n s bs ≡ closed (cond (leb (length bs) 0) Accepted (requestAnswer bs (placeAt n))) s (totalsText s)
+unfolding ticksText
+at-end p zero n s bs h never = rw (le-leb (length bs) 0 h)
+at-end p (suc k) n s bs h never = go _ refl (leb (length bs) 0) _
+  where
+    go : (a : Answer) → requestAnswer bs (placeAt n) ≡ a → (b : Bool) (more : List ℕ) → cond b (totalsText s) (closed (requestAnswer bs (placeAt n)) s more) ≡ closed (cond b Accepted (requestAnswer bs (placeAt n))) s (totalsText s)
+    go a q true more = refl
+    go (Refused x) q false more = rw q
+    go Accepted q false more = absurd (never (good-accepted bs (accepted-good bs (placeAt n) q) (placeAt 0)))
+
+-- a player's last answer and the totals are what the input still prints, at its end or with all bytes at hand that there may be
+pub ends-whole : (p : Plan) (w : Player) (more : List ℕ) (k : ℕ) → length (atHand w ++ more) ≤ k → (more ≡ []) ⊎ (held ≤ length (atHand w)) → (requestAnswer (atHand w) (placeAt 0) ≡ Accepted → ⊥)
+    → ticksText k p (w .place) (w .state) (atHand w ++ more) ≡ closed (lastAnswer w) (w .state) (totalsText (w .state))
 unfolding lastAnswer
-ends p w k h = at-end p k (w .place) (w .state) (atHand w) h ∙ go (leb (length (atHand w)) 0)
-  where
-    go : (b : Bool) → cond b (totalsText (w .state)) (closed (requestAnswer (atHand w) (placeAt (w .place))) (w .state) (totalsText (w .state))) ≡ closed (cond b Accepted (requestAnswer (atHand w) (placeAt (w .place)))) (w .state) (totalsText (w .state))
-    go true = refl
-    go false = refl
+ends-whole p w more k h (inl none) never =
+    let all : atHand w ++ more ≡ atHand w = ap (λ (l : List ℕ). atHand w ++ l) none ∙ append-nil (atHand w) in
+    rw all (at-end p k (w .place) (w .state) (atHand w) (omega (arith, length-append (atHand w) more)) never)
+ends-whole p w more k h (inr full) never =
+    let nowhere : requestAnswer (atHand w) (placeAt (w .place)) ≡ Accepted → ⊥ = λ e. never (good-accepted (atHand w) (accepted-good (atHand w) (placeAt (w .place)) e) (placeAt 0)) in
+    let long : length (atHand w ++ more) ≡ length (atHand w) + length more = length-append (atHand w) more in
+    let same : requestAnswer (atHand w ++ more) (placeAt (w .place)) ≡ requestAnswer (atHand w) (placeAt (w .place)) = full-same (atHand w) more (placeAt (w .place)) (omega arith) nowhere in
+    let start-same : requestAnswer (atHand w ++ more) (placeAt 0) ≡ requestAnswer (atHand w) (placeAt 0) = full-same (atHand w) more (placeAt 0) (omega arith) never in
+    at-end p k (w .place) (w .state) (atHand w ++ more) h (λ e. never (sym start-same ∙ e)) ∙ rw (lt-leb (length (atHand w ++ more)) 0 (omega arith), lt-leb (length (atHand w)) 0 (omega arith), same)
+
+-- ---- all parts together
+
+-- whatever parts the input is read in and whatever room there is for each, what is printed is what the whole input prints
+pub parts-whole : {p : Plan} {w : Player} {more text : List ℕ} → Parts p w more text → (k : ℕ) → length (atHand w ++ more) ≤ k → w .place + length (atHand w ++ more) ≤ 18446744073709551615
+    → text ≡ ticksText k p (w .place) (w .state) (atHand w ++ more)
+parts-whole {p = p} (reads w v part more text es ep eh rest) k h far =
+    let same : atHand v ++ more ≡ atHand w ++ (part ++ more) = ap (λ (l : List ℕ). l ++ more) eh ∙ append-assoc (atHand w) part more in
+    let long : length (atHand v ++ more) ≡ length (atHand w ++ (part ++ more)) = ap length same in
+    parts-whole rest k (omega arith) (omega arith) ∙ rw (es, ep, same)
+parts-whole {p = p} (plays w room more text rest) k h far =
+    let a : length (atHand w ++ more) ≡ length (atHand w) + length more = length-append (atHand w) more in
+    let g : GoesOn p w (playedOn p w room .player) (playedFrom p w room .said) room = goes-on p w room (omega arith) in
+    let b : length (atHand (playedOn p w room .player) ++ more) ≡ length (atHand (playedOn p w room .player)) + length more = length-append (atHand (playedOn p w room .player)) more in
+    let sum : g .ticks + (k - g .ticks) ≡ k = omega (arith, g .shorter) in
+    ap (λ (l : List ℕ). playedFrom p w room .said ++ l) (parts-whole rest (k - g .ticks) (omega (arith, g .shorter)) (omega (arith, g .stands))) ∙ sym (g .prints (k - g .ticks) more) ∙ ap (λ (n : ℕ). ticksText n p (w .place) (w .state) (atHand w ++ more)) sum
+parts-whole {p = p} (ends w more at never) k h far = sym (ends-whole p w more k h at never)
 
 -- a whole input with an accepted plan file prints the ticks from a started player on
 pub replay-begins : (high low : ℕ) (file ticks : List ℕ) → length file ≡ high * 256 + low → planRead file .answer ≡ Accepted
@@ -171,3 +189,8 @@ replay-begins high low file ticks e ok =
     let body : take (told bs) (drop 2 bs) ≡ file = take-at file ticks (told bs) e in
     let rest : drop (2 + told bs) bs ≡ ticks = sym (drop-drop (told bs) 2 bs) ∙ drop-at file ticks (told bs) e in
     rw (le-ltb (length bs) (2 + told bs) long, body, ok, rest, e)
+
+-- the parts that are printed from a started player on, put together, are what is printed for the whole input
+pub replay-whole : (high low : ℕ) (file ticks text : List ℕ) → length file ≡ high * 256 + low → planRead file .answer ≡ Accepted → 2 + (length file + length ticks) ≤ 18446744073709551615
+    → Parts (planRead file .plan) (start (2 + length file)) ticks text → text ≡ replayText (high ∷ low ∷ (file ++ ticks))
+replay-whole high low file ticks text e ok far parts = parts-whole parts (length (high ∷ low ∷ (file ++ ticks))) (omega (arith, length-append file ticks)) (omega arith) ∙ sym (replay-begins high low file ticks e ok)

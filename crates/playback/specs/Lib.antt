@@ -1,4 +1,3 @@
 pub mod Requests
 pub mod Players
 pub mod Replay
-pub mod Turns

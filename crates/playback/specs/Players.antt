@@ -8,16 +8,19 @@ use Rattle.tasks.specs.Places.{placeAt}
 use Rattle.tasks.specs.declared.Answer.{Answer}
 use Rattle.tasks.specs.declared.Answer.the-variants.{Accepted}
 use Rattle.dispatch.specs.States.{freshState}
-use Rattle.texts.specs.Text.{noText}
 use Rattle.playback.specs.Requests.{requestAnswer}
 use Rattle.playback.specs.declared.Player.{Player}
 
+-- how many bytes a player has at hand at most
+abbrev pub held : ℕ
+held = 4096
+
 -- the bytes at hand of a player
 abbrev pub atHand : Player → List ℕ
-atHand w = take (min (w .count) 160) (w .bytes)
+atHand w = take (min (w .count) held) (w .bytes)
 
 abbrev pub start : ℕ → Player
-start n = record { state = freshState; bytes = replicate 160 0; count = 0; place = n; text = noText }
+start n = record { state = freshState; bytes = replicate held 0; count = 0; place = n }
 
 -- at the end of the input: accepted if nothing is left, otherwise what the bytes left are judged as
 unfoldable pub lastAnswer : Player → Answer

@@ -1,7 +1,9 @@
 -- A replay: the length of a plan file in two bytes, high first, that plan file, and then ticks to the end of the input.
+use mathlib.Core.Path.{_≡_}
+use mathlib.Core.Logic.{_⊎_}
 use mathlib.Core.Bool.{cond}
 use mathlib.Core.List.{List, [], _++_}
-use Prim.Native.Nat.{ℕ, zero, suc, _+_, _-_, _*_}
+use Prim.Native.Nat.{ℕ, zero, suc, _+_, _-_, _*_, _≤_}
 use lib.Dec.{ltb, leb}
 use lib.ListN.{length, getD, take, drop}
 use Rattle.tasks.specs.Below.{padded}
@@ -16,12 +18,13 @@ use Rattle.dispatch.specs.States.{freshState}
 use Rattle.dispatch.specs.Tick.{tick}
 use Rattle.dispatch.specs.declared.State.{State}
 use Rattle.dispatch.specs.declared.Ticked.{Ticked}
-use Rattle.ticklines.specs.Lines.{tickedText, totalsText}
+use Rattle.ticklines.specs.Lines.{ranMost, tickedText, totalsText}
 use Rattle.texts.specs.Telling.{answerText, refusalText}
-use Rattle.texts.specs.Text.{textOf}
 use Rattle.playback.specs.Requests.{finishedIn, releasedIn, requestSize, requestAnswer}
-use Rattle.playback.specs.Players.{atHand}
+use Rattle.playback.specs.Players.{held, atHand, lastAnswer}
+use Rattle.playback.specs.declared.Played.{Played}
 use Rattle.playback.specs.declared.Player.{Player}
+use Rattle.playback.specs.declared.Reached.{Reached}
 
 -- the tick that the next bytes ask for
 abbrev pub tickAsked : Plan → State → List ℕ → Ticked
@@ -70,31 +73,54 @@ after p z t = record { state = t .state; left = drop (requestSize (z .left)) (z 
 unfoldable pub next : Plan → Standing → Standing
 next p z = after p z (tickAsked p (z .state) (z .left))
 
--- so many requests are played
-unfoldable pub played : Plan → ℕ → Standing → Standing
-played p zero z = z
-played p (suc k) z = next p (played p k z)
+-- the next request is played if it is whole and good; otherwise the replay stays where it stands
+abbrev pub goesOn : Answer → Standing → Standing → Standing
+goesOn (Refused x) more z = z
+goesOn Accepted more z = more
 
--- one more if the first is whole and good, otherwise none
-abbrev pub oneMore : Answer → ℕ → ℕ
-oneMore (Refused x) n = 0
-oneMore Accepted n = suc n
+-- whole requests are played as long as the longest line has room in so many bytes after what was printed. k bounds how many there may be
+unfoldable pub playedIn : ℕ → Plan → ℕ → Standing → Standing
+playedIn zero p room z = z
+playedIn (suc k) p room z = cond (ltb room (length (z .said) + ranMost)) z (goesOn (requestAnswer (z .left) (placeAt 0)) (playedIn k p room (next p z)) z)
 
--- with how many whole and good requests some bytes begin, of at most k
-unfoldable pub wholes : ℕ → List ℕ → ℕ
-wholes zero bs = 0
-wholes (suc k) bs = oneMore (requestAnswer bs (placeAt 0)) (wholes k (drop (requestSize bs) bs))
+-- a replay that has printed nothing yet of some bytes
+abbrev pub beginning : State → List ℕ → Standing
+beginning s bs = record { state = s; left = bs; said = [] }
+
+-- what becomes of the bytes at hand in so much room: each request has a byte at least
+unfoldable pub playedFrom : Plan → Player → ℕ → Standing
+playedFrom p w room = playedIn (length (atHand w)) p room (beginning (w .state) (atHand w))
 
 -- a player that stands there, what is left being at the beginning
 abbrev pub standing : Player → Standing → Player
 standing w z = record {
   state = z .state;
-  bytes = padded 160 (length (z .left)) 0 (λ i. getD (z .left) i 0);
+  bytes = padded held (length (z .left)) 0 (λ i. getD (z .left) i 0);
   count = length (z .left);
   place = further (w .place) (length (atHand w) - length (z .left));
-  text = textOf (z .said);
 }
 
--- all whole requests at hand are played
-unfoldable pub playedOn : Plan → Player → Player
-playedOn p w = standing w (played p (wholes 80 (atHand w)) (record { state = w .state; left = atHand w; said = [] }))
+-- the player then, and how long its lines are
+abbrev pub playedOn : Plan → Player → ℕ → Played
+playedOn p w room = record { player = standing w (playedFrom p w room); length = length (playedFrom p w room .said) }
+
+-- lent bytes that begin with its lines; those after them are as they were
+abbrev pub linesIn : List ℕ → List ℕ → List ℕ
+linesIn lines lent = lines ++ drop (length lines) lent
+
+-- what playing the first bytes of some comes to: where it stands, told by what is left of them and by the lent bytes, which begin with its lines
+pub record Comes (count : ℕ) (bytes : List ℕ) (z : Standing) (lent out : List ℕ) (r : Reached) : Type 0 where
+  pub state : r .state ≡ z .state
+  pub within : r .at ≤ count
+  pub left : drop (r .at) bytes ≡ z .left
+  pub long : r .length ≡ length (z .said)
+  pub lines : out ≡ linesIn (z .said) lent
+
+-- ---- a replay in parts
+
+-- what is printed from a player on, the rest of the input being unread: parts of the input are read, as much is played as there is room for, and at the end of the input, or with all bytes at hand that there may be,
+-- no whole request is left
+pub data Parts (p : Plan) : Player → List ℕ → List ℕ → Type 0 where
+  reads : (w v : Player) (part more text : List ℕ) → v .state ≡ w .state → v .place ≡ w .place → atHand v ≡ atHand w ++ part → Parts p v more text → Parts p w (part ++ more) text
+  plays : (w : Player) (room : ℕ) (more text : List ℕ) → Parts p (playedOn p w room .player) more text → Parts p w more (playedFrom p w room .said ++ text)
+  ends : (w : Player) (more : List ℕ) → (more ≡ []) ⊎ (held ≤ length (atHand w)) → (requestAnswer (atHand w) (placeAt 0) ≡ Accepted → ⊥) → Parts p w more (closed (lastAnswer w) (w .state) (totalsText (w .state)))

@@ -1,21 +1,19 @@
 // Replays: ticks come as bytes, one request after another; those that are whole are made, and their lines are told.
 ghost use mathlib.Core.Path.{_≡_};
 ghost use Prim.Native.Nat.{_<_, _+_, _-_, _≤_};
-ghost use lib.ListN.{getD, take};
+ghost use lib.ListN.{length, getD, take};
 ghost use Rattle.tasks.specs.Below.{padded};
 ghost use Rattle.playback.specs.Requests.{tasksAt, finishedIn, releasedIn, judged};
 ghost use Rattle.playback.specs.Players.{start as begun, lastAnswer};
-ghost use Rattle.playback.specs.Replay.{wholes, playedOn};
-ghost use Rattle.playback.specs.Turns.{handed, shownOf, shotOf, shotAfter};
-use board::Ran;
+ghost use Rattle.playback.specs.Replay.{tickAsked, playedIn, beginning, playedFrom, playedOn, linesIn, Comes};
 use dispatch::State;
+use dispatch::Ticked;
 use jobs::Tasks;
 use plans::Plan;
 use tasks::Answer;
 use tasks::Place;
 use tasks::Refusal;
 use tasks::TaskNo;
-use texts::Text;
 
 // ---- A tick's request as bytes.
 
@@ -90,13 +88,12 @@ fn byte_at(bytes: &[u8], i: usize) -> usize
 
 // ---- Where a replay stands: how it begins, and what its end tells.
 
-// A replay under way: the state, the bytes at hand, which are the first `count`, the place of the first of them in the input, and the lines to print.
+// A replay under way: the state, the bytes at hand, which are the first `count`, and the place of the first of them in the input.
 pub struct Player {
     pub state: State,
-    pub bytes: [u8; 160],
+    pub bytes: [u8; 4096],
     pub count: usize,
     pub place: usize,
-    pub text: Text,
 }
 
 // A replay that begins at a place of the input.
@@ -105,10 +102,9 @@ pub fn start(place: usize) -> Player
 {
     Player {
         state: dispatch::fresh(),
-        bytes: [0u8; 160],
+        bytes: [0u8; 4096],
         count: 0,
         place,
-        text: Text::empty(),
     }
 }
 
@@ -117,7 +113,7 @@ pub fn last(player: Player) -> Answer
     ensures { λ r. ⌜ r ≡ lastAnswer player ⌝ }
 {
     let bytes = player.bytes;
-    let count = tasks::smaller(player.count, 160);
+    let count = tasks::smaller(player.count, 4096);
     if count == 0 {
         return Answer::Accepted;
     }
@@ -127,100 +123,52 @@ pub fn last(player: Player) -> Answer
 
 // ---- The requests at hand are played.
 
-// Bytes at hand that are played: the next request begins at `at`, and the lines so far.
-struct Reel {
-    bytes: [u8; 160],
-    count: usize,
-    at: usize,
-    text: Text,
-}
-
-// What playing some requests comes to.
-struct Shot {
-    reel: Reel,
-    state: State,
-}
-
-// With how many whole and good requests the bytes at hand begin: each has two bytes at least.
-fn whole_requests(bytes: [u8; 160], count: usize) -> usize
-    requires { ⌜ count ≤ 160 ⌝ }
-    ensures { λ r. ⌜ r ≡ wholes 80 (take count bytes) ⌝ }
+// The tick that the next bytes ask for.
+fn asked(plan: Plan, state: State, bytes: &[u8]) -> Ticked
+    ensures { λ r. ⌜ r ≡ tickAsked plan state (now (bytes .entry)) ⌝ }
 {
+    dispatch::tick(plan, state, finished(bytes), released(bytes))
+}
+
+// Where playing comes to: the state, where the next request begins among the bytes at hand, and how long the lines are.
+struct Reached {
+    state: State,
+    at: usize,
+    length: usize,
+}
+
+// Plays the whole requests that some bytes begin with, as long as the longest line has room after the lines so far.
+fn advance(out: &mut [u8], bytes: [u8; 4096], count: usize, plan: Plan, begun: State) -> Reached
+    requires { ⌜ count ≤ 4096 ⌝ }
+    ensures { λ r. ⌜ Comes count (take count bytes) (playedIn count plan (length (now (out .entry))) (beginning begun (take count bytes))) (now (out .entry)) (now (out .exit)) r ⌝ }
+{
+    let mut state = begun;
     let mut at = 0;
-    let mut n = 0;
-    while n < 80 {
+    let mut end = 0;
+    while !texts::short(out.len(), end, 337) {
         let judged = judge(&bytes[at..count], Place(0));
         let answer = judged.answer;
         if let Answer::Refused(_) = answer {
-            return n;
+            break;
         }
+        let made = asked(plan, state, &bytes[at..count]);
+        end = ticklines::ticked(out, end, plan.cores, made);
+        state = made.state;
         at += judged.size;
-        n += 1;
     }
-    n
-}
-
-// The tasks that the next request tells as finished.
-fn finishes(reel: Reel, _plan: Plan, _state: State) -> Tasks
-    ensures { λ r. ⌜ r ≡ finishedIn (handed reel) ⌝ }
-{
-    let bytes = reel.bytes;
-    let end = tasks::smaller(reel.count, 160);
-    let begin = tasks::smaller(reel.at, end);
-    finished(&bytes[begin..end])
-}
-
-// The tasks that the next request releases.
-fn releases(reel: Reel, _plan: Plan, _state: State) -> Tasks
-    ensures { λ r. ⌜ r ≡ releasedIn (handed reel) ⌝ }
-{
-    let bytes = reel.bytes;
-    let end = tasks::smaller(reel.count, 160);
-    let begin = tasks::smaller(reel.at, end);
-    released(&bytes[begin..end])
-}
-
-// A tick's line is told, and the request after it is next.
-fn show(mut reel: Reel, plan: Plan, ran: Ran, _state: State) -> Reel
-    ensures { λ r. ⌜ r ≡ shownOf reel plan ran «_state» ⌝ }
-{
-    let bytes = reel.bytes;
-    let end = tasks::smaller(reel.count, 160);
-    let begin = tasks::smaller(reel.at, end);
-    let judged = judge(&bytes[begin..end], Place(0));
-    reel.at = begin + judged.size;
-    reel.text = ticklines::ran(reel.text, plan.cores, ran);
-    reel
-}
-
-// Both of what playing comes to.
-fn taken(reel: Reel, state: State) -> Shot
-    ensures { λ r. ⌜ r ≡ shotOf reel state ⌝ }
-{
-    Shot { reel, state }
-}
-
-// So many requests played from a state, which is the record that is kept here and stepped where it stands.
-fn shoot(mut reel: Reel, plan: Plan, mut state: State, n: usize) -> Shot
-    ensures { λ r. ⌜ r ≡ shotAfter reel plan state n ⌝ }
-{
-    let mut i: usize = 0;
-    while i < n {
-        let finished = finishes(reel, plan, state);
-        let released = releases(reel, plan, state);
-        let ran = board::step(&mut state, plan, finished, released);
-        reel = show(reel, plan, ran, state);
-        i += 1;
+    Reached {
+        state,
+        at,
+        length: end,
     }
-    taken(reel, state)
 }
 
 // The bytes from a place on, moved to the beginning.
-fn left(bytes: [u8; 160], count: usize, at: usize) -> [u8; 160]
-    requires { ⌜ (at ≤ count) × (count ≤ 160) ⌝ }
-    ensures { λ r. ⌜ r ≡ padded 160 (count - at) 0 (λ i. getD bytes (at + i) 0) ⌝ }
+fn left(bytes: [u8; 4096], count: usize, at: usize) -> [u8; 4096]
+    requires { ⌜ (at ≤ count) × (count ≤ 4096) ⌝ }
+    ensures { λ r. ⌜ r ≡ padded 4096 (count - at) 0 (λ i. getD bytes (at + i) 0) ⌝ }
 {
-    let mut moved = [0u8; 160];
+    let mut moved = [0u8; 4096];
     let mut i = 0;
     while i < count - at {
         moved[i] = bytes[at + i];
@@ -229,29 +177,30 @@ fn left(bytes: [u8; 160], count: usize, at: usize) -> [u8; 160]
     moved
 }
 
-// Plays all whole requests at hand: their lines are the text, and what is left stands at the beginning.
-pub fn play(player: Player, plan: Plan) -> Player
-    ensures { λ r. ⌜ r ≡ playedOn plan player ⌝ }
+// A player after some requests, and how long their lines are.
+pub struct Played {
+    pub player: Player,
+    pub length: usize,
+}
+
+// Plays whole requests at hand as long as the longest line has room: their lines stand at the beginning of the lent bytes, and what is left at the beginning of the player's.
+pub fn play(out: &mut [u8], player: Player, plan: Plan) -> Played
+    ensures { λ r. ⌜ (r ≡ playedOn plan player (length (now (out .entry)))) × (now (out .exit) ≡ linesIn (playedFrom plan player (length (now (out .entry))) .said) (now (out .entry))) ⌝ }
 {
     let bytes = player.bytes;
-    let count = tasks::smaller(player.count, 160);
-    let n = whole_requests(bytes, count);
-    let reel = Reel {
-        bytes,
-        count,
-        at: 0,
-        text: Text::empty(),
-    };
-    let shot = shoot(reel, plan, player.state, n);
-    let done = shot.reel;
-    let state = shot.state;
-    let text = done.text;
-    let at = tasks::smaller(done.at, count);
-    Player {
+    let begun = player.state;
+    let count = tasks::smaller(player.count, 4096);
+    let reached = advance(out, bytes, count, plan, begun);
+    let state = reached.state;
+    let at = reached.at;
+    let after = Player {
         state,
         bytes: left(bytes, count, at),
         count: count - at,
         place: tasks::further(player.place, at),
-        text,
+    };
+    Played {
+        player: after,
+        length: reached.length,
     }
 }

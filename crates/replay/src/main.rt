@@ -7,7 +7,6 @@ use playback::Player;
 use tasks::Answer;
 use tasks::Place;
 use tasks::Refusal;
-use texts::Text;
 
 // A player after one more part of the input, and whether the input may go on.
 struct Fed {
@@ -27,7 +26,7 @@ fn read_some(bytes: &mut [u8]) -> usize
 fn feed_some(mut player: Player) -> Fed {
     let mut bytes = player.bytes;
     let held = player.count;
-    if 160 <= held {
+    if 4096 <= held {
         return Fed {
             player,
             more: false,
@@ -42,24 +41,27 @@ fn feed_some(mut player: Player) -> Fed {
     }
 }
 
-// All ticks of the input, from its byte `start` on, and the totals.
+// All ticks of the input, from its byte `start` on, and the totals: a part of the input is read, and as much is played as there is room for, until nothing is read and nothing is played.
 // A proved loop has to end, and nothing says that an input does: the loop counts its turns down, from a number that no run uses up.
 fn replay(plan: Plan, start: usize) {
+    let mut lines = [0u8; 16384];
     let mut player = playback::start(start);
     let mut more = true;
     let mut turns = u64::MAX;
     while turns > 0 && more {
         let fed = feed_some(player);
-        player = playback::play(fed.player, plan);
-        console::print(player.text);
-        more = fed.more;
+        let played = playback::play(&mut lines, fed.player, plan);
+        console::print(&lines, played.length);
+        player = played.player;
+        more = fed.more | (0 < played.length);
         turns -= 1;
     }
     let answer = playback::last(player);
     if let Answer::Refused(refusal) = answer {
-        console::print(texts::refusal(Text::empty(), refusal));
+        console::print_refusal(refusal);
     }
-    console::print(ticklines::totals(Text::empty(), player.state));
+    let n = ticklines::totals(&mut lines, 0, player.state);
+    console::print(&lines, n);
 }
 
 fn wide(x: u8) -> usize
@@ -82,13 +84,13 @@ fn main() {
     let length = wide(file[0]) * 256 + wide(file[1]);
     let is_whole = fill(&mut file, length);
     if !is_told | !is_whole {
-        console::print(texts::refusal(Text::empty(), Refusal::CutShort(Place(0))));
+        console::print_refusal(Refusal::CutShort(Place(0)));
         return;
     }
     let read = console::plan_in(&file, length);
     let answer = read.answer;
     match answer {
         Answer::Accepted => replay(read.plan, 2 + length),
-        Answer::Refused(refusal) => console::print(texts::refusal(Text::empty(), refusal)),
+        Answer::Refused(refusal) => console::print_refusal(refusal),
     }
 }

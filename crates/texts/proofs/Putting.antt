@@ -118,6 +118,10 @@ put-same {at} {lent} p text e all fits most = record {
   size = p .size;
 }
 
+-- no longer than it is
+pub put-tight : {at : ℕ} {lent a : List ℕ} {m r : ℕ} {xs : List ℕ} → Put at lent m a r xs → Put at lent (length a) a r xs
+put-tight p = record { end = p .end; bytes = p .bytes; few = omega arith; room = omega (arith, p .few, p .room); size = p .size }
+
 -- lines in a row
 pub put-row-none : (at : ℕ) (lent : List ℕ) (k : ℕ) (f : ℕ → List ℕ) → at ≤ length lent → Put at lent (0 * k) (row 0 f) at lent
 unfolding row
@@ -217,9 +221,11 @@ first-digit (suc k) n false e h = absurd (⊎-elim (λ (z : suc k ≡ 0). omega 
 
 pub all-found : (n : ℕ) (bytes : List ℕ) (start rest : ℕ) → Found n bytes start rest → (start ≡ 0) ⊎ (rest < 10)
     → (length (set bytes start (48 + rest % 10)) ≡ 20) × (start ≤ 20) × (drop start (set bytes start (48 + rest % 10)) ≡ decimal n)
-all-found n bytes start rest f h =
-    (length-set bytes start (48 + rest % 10) ∙ f .size, omega (arith, f .small),
-    drop-set bytes start _ (omega (arith, f .size, f .small)) ∙ ap (λ (l : List ℕ). l ++ drop (suc start) bytes) (sym (first-digit start rest _ refl h)) ∙ f .same)
+all-found n bytes start rest f h = (
+  length-set bytes start (48 + rest % 10) ∙ f .size,
+  omega (arith, f .small),
+  drop-set bytes start _ (omega (arith, f .size, f .small)) ∙ ap (λ (l : List ℕ). l ++ drop (suc start) bytes) (sym (first-digit start rest _ refl h)) ∙ f .same,
+)
 
 -- ---- how long numbers and rows are
 

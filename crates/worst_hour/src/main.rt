@@ -45,13 +45,17 @@ fn eight_cores() -> Table {
     }
 }
 
+// The lent bytes have room for every listing and for all of a watched run.
 fn show(table: Table) {
+    let mut text = [0u8; 16384];
     let planned = planner::plan_table(table);
-    console::print(planlines::planned(planned));
+    let listed = planlines::planned(&mut text, 0, planned);
+    console::print(&text, listed);
     let answer = planned.answer;
     if let Answer::Accepted = answer {
         let plan = planned.plan;
-        console::print(ticklines::watched(plan, fullrate::watch(plan, 100000)));
+        let told = ticklines::watched(&mut text, 0, plan, fullrate::watch(plan, 100000));
+        console::print(&text, told);
     }
 }
 

@@ -10,13 +10,13 @@ use Rattle.playback.proofs.left.Statement.{statement}
 use Rattle.playback.proofs.left.Tie as tie
 
 abbrev Inv-loop : tie.InvT-loop
-Inv-loop count at bytes moved₀ i₀ moved i = (at ≤ count) × (count ≤ 160) × (length bytes ≡ 160) × (i ≤ count - at) × (moved ≡ padded 160 i 0 (λ k. getD bytes (at + k) 0))
+Inv-loop count at bytes moved₀ i₀ moved i = (at ≤ count) × (count ≤ 4096) × (length bytes ≡ 4096) × (i ≤ count - at) × (moved ≡ padded 4096 i 0 (λ k. getD bytes (at + k) 0))
 
 abbrev μ-loop : tie.MeasureT-loop
 μ-loop count at bytes moved₀ i₀ moved i = count - at - i
 
 loop-holds : tie.Need-loop-holds Inv-loop μ-loop
-loop-holds c = (search needs, search needs, search needs, search needs, padded-start 160 0 _)
+loop-holds c = (search needs, search needs, search needs, search needs, padded-start 4096 0 _)
 
 sub-loop : tie.Need-sub-loop Inv-loop μ-loop
 sub-loop c = search needs
@@ -37,7 +37,7 @@ loop-less : tie.Need-loop-less Inv-loop μ-loop
 loop-less c = search needs
 
 loop-again : tie.Need-loop-again Inv-loop μ-loop
-loop-again c = (search needs, search needs, search needs, omega arith, padded-turn 160 0 _ _ _ _ (omega arith) (c .before .loop .inv .4) refl)
+loop-again c = (search needs, search needs, search needs, omega arith, padded-turn 4096 0 _ _ _ _ (omega arith) (c .before .loop .inv .4) refl)
 
 returns : tie.Need-returns Inv-loop μ-loop
 returns c = let e : c .before .loop .i ≡ c .before .before .args .count - c .before .before .args .at = omega arith in simp (c .before .loop .inv .4, e)

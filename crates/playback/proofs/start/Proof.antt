@@ -5,11 +5,8 @@ use Rattle.playback.proofs.start.Tie as tie
 fresh-requires : tie.Need-fresh-requires
 fresh-requires c κs = search needs
 
-empty-requires : tie.Need-empty-requires
-empty-requires c κs = search needs
-
 returns : tie.Need-returns
-returns c = rw (c .before .fresh .ensures, c .empty .ensures)
+returns c = rw (c .fresh .ensures)
 
 pub start-spec : {M : Type 1} → statement M
-start-spec = tie.close (tie.spec fresh-requires empty-requires returns)
+start-spec = tie.close (tie.spec fresh-requires returns)

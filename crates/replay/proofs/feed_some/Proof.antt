@@ -15,7 +15,7 @@ part-bytes-start : tie.Need-part-bytes-start
 part-bytes-start c = search needs
 
 part-bytes-end : tie.Need-part-bytes-end
-part-bytes-end c = let l : length (c .before .before .args .player .bytes) ≡ 160 = simp length-map at (c .before .before .good .0 .1 .1 .1 .0 .1 .0 .1) in omega arith
+part-bytes-end c = let l : length (c .before .before .args .player .bytes) ≡ 4096 = simp length-map at (c .before .before .good .0 .1 .1 .1 .0 .1 .0 .1) in omega arith
 
 read-some-requires : tie.Need-read-some-requires
 read-some-requires c κs = search needs

@@ -1,12 +1,14 @@
+use mathlib.Core.Path.{_≡_}
+use lib.ListN.{length}
 use borrow.Author.Needs.{needs}
 use Rattle.replay.proofs.replay.Statement.{statement}
 use Rattle.replay.proofs.replay.Tie as tie
 
 abbrev Inv-loop : tie.InvT-loop
-Inv-loop plan start player₀ more₀ turns₀ player more turns = Unit {0}
+Inv-loop plan start lines₀ player₀ more₀ turns₀ lines player more turns = length lines ≡ 16384
 
 abbrev μ-loop : tie.MeasureT-loop
-μ-loop plan start player₀ more₀ turns₀ player more turns = turns
+μ-loop plan start lines₀ player₀ more₀ turns₀ lines player more turns = turns
 
 start-requires : tie.Need-start-requires Inv-loop μ-loop
 start-requires c κs = search needs
@@ -17,8 +19,14 @@ loop-holds c = search needs
 feed-some-requires : tie.Need-feed-some-requires Inv-loop μ-loop
 feed-some-requires c κs = search needs
 
+slice-aggregate-play : tie.Need-slice-aggregate-play Inv-loop μ-loop
+slice-aggregate-play c = search needs
+
 play-requires : tie.Need-play-requires Inv-loop μ-loop
 play-requires c κs = search needs
+
+slice-aggregate-print : tie.Need-slice-aggregate-print Inv-loop μ-loop
+slice-aggregate-print c = search needs
 
 print-requires : tie.Need-print-requires Inv-loop μ-loop
 print-requires c κs = search needs
@@ -38,26 +46,23 @@ last-requires c κs = search needs
 enum-known-answer : tie.Need-enum-known-answer Inv-loop μ-loop
 enum-known-answer c = search needs
 
-empty-requires : tie.Need-empty-requires Inv-loop μ-loop
-empty-requires c κs = search needs
-
-refusal-requires : tie.Need-refusal-requires Inv-loop μ-loop
-refusal-requires c κs = search needs
-
-print-requires-2 : tie.Need-print-requires-2 Inv-loop μ-loop
-print-requires-2 c κs = search needs
+print-refusal-requires : tie.Need-print-refusal-requires Inv-loop μ-loop
+print-refusal-requires c κs = search needs
 
 enum-told : tie.Need-enum-told Inv-loop μ-loop
 enum-told c = search needs
 
-empty-requires-2 : tie.Need-empty-requires-2 Inv-loop μ-loop
-empty-requires-2 c κs = search needs
+slice-aggregate-totals : tie.Need-slice-aggregate-totals Inv-loop μ-loop
+slice-aggregate-totals c = search needs
 
 totals-requires : tie.Need-totals-requires Inv-loop μ-loop
 totals-requires c κs = search needs
 
-print-requires-3 : tie.Need-print-requires-3 Inv-loop μ-loop
-print-requires-3 c κs = search needs
+slice-aggregate-print-2 : tie.Need-slice-aggregate-print-2 Inv-loop μ-loop
+slice-aggregate-print-2 c = search needs
+
+print-requires-2 : tie.Need-print-requires-2 Inv-loop μ-loop
+print-requires-2 c κs = search needs
 
 returns : tie.Need-returns Inv-loop μ-loop
 returns c = search needs
@@ -71,18 +76,19 @@ replay-spec =
     start-requires
     loop-holds
     feed-some-requires
+    slice-aggregate-play
     play-requires
+    slice-aggregate-print
     print-requires
     sub-turns
     loop-less
     loop-again
     last-requires
     enum-known-answer
-    empty-requires
-    refusal-requires
-    print-requires-2
+    print-refusal-requires
     enum-told
-    empty-requires-2
+    slice-aggregate-totals
     totals-requires
-    print-requires-3
+    slice-aggregate-print-2
+    print-requires-2
     returns)
