@@ -6,6 +6,7 @@ ghost use Rattle.files.specs.Files.{planRead};
 use files::ReadPlan;
 use files::ReadTable;
 use files::Reader;
+use libc::STDERR_FILENO;
 use libc::STDIN_FILENO;
 use libc::STDOUT_FILENO;
 use tasks::Refusal;
@@ -59,18 +60,33 @@ pub fn plan_in(bytes: &[u8], n: usize) -> ReadPlan
     files::read_plan(&bytes[..n])
 }
 
-// Prints the first n bytes of a buffer, or all that it has.
-pub fn print(bytes: &[u8], n: usize) {
+// Writes the first n bytes of a buffer to a file, or all that it has.
+fn put(file: i32, bytes: &[u8], n: usize) {
     if bytes.len() < n {
-        io::write_all(STDOUT_FILENO, bytes);
+        io::write_all(file, bytes);
         return;
     }
-    io::write_all(STDOUT_FILENO, &bytes[..n]);
+    io::write_all(file, &bytes[..n]);
+}
+
+// Writes a refusal's line, for which its bytes have room.
+fn put_refusal(file: i32, refusal: Refusal) {
+    let mut line = [0u8; 56];
+    let n = texts::refusal(&mut line, 0, refusal);
+    put(file, &line, n);
+}
+
+// Prints the first n bytes of a buffer, or all that it has.
+pub fn print(bytes: &[u8], n: usize) {
+    put(STDOUT_FILENO, bytes, n);
 }
 
 // Prints a refusal's line.
 pub fn print_refusal(refusal: Refusal) {
-    let mut line = [0u8; 56];
-    let n = texts::refusal(&mut line, 0, refusal);
-    print(&line, n);
+    put_refusal(STDOUT_FILENO, refusal);
+}
+
+// Prints a refusal's line to standard error.
+pub fn complain(refusal: Refusal) {
+    put_refusal(STDERR_FILENO, refusal);
 }

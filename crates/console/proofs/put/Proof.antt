@@ -2,8 +2,8 @@ use mathlib.Core.Path.{sym}
 use native.Mathlib.Omega.{arith}
 use lib.Seq.{length-take-le}
 use borrow.Author.Needs.{needs}
-use Rattle.console.proofs.print.Statement.{statement}
-use Rattle.console.proofs.print.Tie as tie
+use Rattle.console.proofs.put.Statement.{statement}
+use Rattle.console.proofs.put.Tie as tie
 
 write-all-requires : tie.Need-write-all-requires
 write-all-requires c κs = search needs
@@ -20,7 +20,7 @@ write-all-requires-2 c κs = search needs
 returns-2 : tie.Need-returns-2
 returns-2 c = search needs
 
-pub print-spec : {M : Type 1} → statement M
-print-spec =
+pub put-spec : {M : Type 1} → statement M
+put-spec =
     tie.close
     (tie.spec write-all-requires returns slice-aggregate-write-all write-all-requires-2 returns-2)
