@@ -62,7 +62,8 @@ pub fn plan_in(bytes: &[u8], n: usize) -> ReadPlan
 
 // Writes the first n bytes of a buffer to a file, or all that it has.
 fn put(file: i32, bytes: &[u8], n: usize) {
-    if bytes.len() < n {
+    let has = bytes.len();
+    if has < n {
         io::write_all(file, bytes);
         return;
     }

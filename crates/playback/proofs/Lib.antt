@@ -3,3 +3,4 @@ pub mod Settled
 pub mod Ending
 pub mod Course
 pub mod Parts
+pub mod Said
