@@ -6,7 +6,7 @@ use mathlib.Core.List.{List, [], _∷_, _++_, append-assoc, append-nil}
 use Prim.Native.Nat.{ℕ, zero, suc, _+_, _-_, _*_, _≤_, _<_, min}
 use native.Mathlib.Nat.{zero-add}
 use native.Mathlib.Omega.{arith}
-use borrow.Author.Tests.{le-ltb, le-leb, lt-leb, ltb-true, ltb-false}
+use borrow.Author.Tests.{lt-ltb, le-ltb, le-leb, lt-leb, ltb-true, ltb-false}
 use lib.Dec.{ltb, leb}
 use lib.ListN.{length, getD, take, drop, length-append, length-take, length-drop}
 use lib.Seq.{drop-append-le, ext-getD, getD-take, take-at, drop-at, drop-drop}
@@ -14,14 +14,17 @@ use Rattle.tasks.specs.Below.{padded}
 use Rattle.tasks.proofs.Padded.{padded-in, padded-length}
 use Rattle.tasks.specs.declared.Answer.{Answer}
 use Rattle.tasks.specs.declared.Answer.the-variants.{Accepted, Refused}
+use Rattle.tasks.specs.declared.Refusal.{Refusal}
+use Rattle.tasks.specs.declared.Refusal.the-variants.{CutShort}
 use Rattle.plans.specs.declared.Plan.{Plan}
 use Rattle.dispatch.specs.declared.State.{State}
 use Rattle.ticklines.specs.Lines.{ranMost, totalsText}
+use Rattle.texts.specs.Telling.{refusalText}
 use Rattle.tasks.specs.Places.{placeAt, further}
 use Rattle.tasks.proofs.Places.{further-is}
 use Rattle.files.specs.Files.{planRead}
 use Rattle.playback.specs.Requests.{requestSize, requestAnswer}
-use Rattle.playback.specs.Replay.{closed, ticksText, told, replayText, Standing, next, playedIn, beginning, playedFrom, standing, playedOn, Parts, reads, plays, ends}
+use Rattle.playback.specs.Replay.{closed, ticksText, told, replayText, Standing, next, playedIn, beginning, playedFrom, standing, playedOn, Parts, reads, plays, closes}
 use Rattle.playback.specs.Players.{held, start, atHand, lastAnswer}
 use Rattle.playback.specs.declared.Player.{Player}
 use Rattle.playback.proofs.Course.{played-more, played-short, played-stuck}
@@ -148,13 +151,13 @@ at-end p (suc k) n s bs h never = go _ refl (leb (length bs) 0) _
     go Accepted q false more = absurd (never (good-accepted bs (accepted-good bs (placeAt n) q) (placeAt 0)))
 
 -- a player's last answer and the totals are what the input still prints, at its end or with all bytes at hand that there may be
-pub ends-whole : (p : Plan) (w : Player) (more : List ℕ) (k : ℕ) → length (atHand w ++ more) ≤ k → (more ≡ []) ⊎ (held ≤ length (atHand w)) → (requestAnswer (atHand w) (placeAt 0) ≡ Accepted → ⊥)
+pub ends : (p : Plan) (w : Player) (more : List ℕ) (k : ℕ) → length (atHand w ++ more) ≤ k → (more ≡ []) ⊎ (held ≤ length (atHand w)) → (requestAnswer (atHand w) (placeAt 0) ≡ Accepted → ⊥)
     → ticksText k p (w .place) (w .state) (atHand w ++ more) ≡ closed (lastAnswer w) (w .state) (totalsText (w .state))
 unfolding lastAnswer
-ends-whole p w more k h (inl none) never =
+ends p w more k h (inl none) never =
     let all : atHand w ++ more ≡ atHand w = ap (λ (l : List ℕ). atHand w ++ l) none ∙ append-nil (atHand w) in
     rw all (at-end p k (w .place) (w .state) (atHand w) (omega (arith, length-append (atHand w) more)) never)
-ends-whole p w more k h (inr full) never =
+ends p w more k h (inr full) never =
     let nowhere : requestAnswer (atHand w) (placeAt (w .place)) ≡ Accepted → ⊥ = λ e. never (good-accepted (atHand w) (accepted-good (atHand w) (placeAt (w .place)) e) (placeAt 0)) in
     let long : length (atHand w ++ more) ≡ length (atHand w) + length more = length-append (atHand w) more in
     let same : requestAnswer (atHand w ++ more) (placeAt (w .place)) ≡ requestAnswer (atHand w) (placeAt (w .place)) = full-same (atHand w) more (placeAt (w .place)) (omega arith) nowhere in
@@ -176,7 +179,7 @@ parts-whole {p = p} (plays w room more text rest) k h far =
     let b : length (atHand (playedOn p w room .player) ++ more) ≡ length (atHand (playedOn p w room .player)) + length more = length-append (atHand (playedOn p w room .player)) more in
     let sum : g .ticks + (k - g .ticks) ≡ k = omega (arith, g .shorter) in
     ap (λ (l : List ℕ). playedFrom p w room .said ++ l) (parts-whole rest (k - g .ticks) (omega (arith, g .shorter)) (omega (arith, g .stands))) ∙ sym (g .prints (k - g .ticks) more) ∙ ap (λ (n : ℕ). ticksText n p (w .place) (w .state) (atHand w ++ more)) sum
-parts-whole {p = p} (ends w more at never) k h far = sym (ends-whole p w more k h at never)
+parts-whole {p = p} (closes w more at never) k h far = sym (ends p w more k h at never)
 
 -- a whole input with an accepted plan file prints the ticks from a started player on
 pub replay-begins : (high low : ℕ) (file ticks : List ℕ) → length file ≡ high * 256 + low → planRead file .answer ≡ Accepted
@@ -194,3 +197,16 @@ replay-begins high low file ticks e ok =
 pub replay-whole : (high low : ℕ) (file ticks text : List ℕ) → length file ≡ high * 256 + low → planRead file .answer ≡ Accepted → 2 + (length file + length ticks) ≤ 18446744073709551615
     → Parts (planRead file .plan) (start (2 + length file)) ticks text → text ≡ replayText (high ∷ low ∷ (file ++ ticks))
 replay-whole high low file ticks text e ok far parts = parts-whole parts (length (high ∷ low ∷ (file ++ ticks))) (omega (arith, length-append file ticks)) (omega arith) ∙ sym (replay-begins high low file ticks e ok)
+
+-- an input that ends before its plan file is whole, and one whose plan file is refused, print one line
+pub replay-cut : (bs : List ℕ) → length bs < 2 + told bs → replayText bs ≡ refusalText (CutShort (placeAt 0))
+unfolding replayText
+replay-cut bs h = rw (lt-ltb (length bs) (2 + told bs) h)
+
+pub replay-refused : (high low : ℕ) (file ticks : List ℕ) (x : Refusal) → length file ≡ high * 256 + low → planRead file .answer ≡ Refused x → replayText (high ∷ low ∷ (file ++ ticks)) ≡ refusalText x
+unfolding replayText
+replay-refused high low file ticks x e bad =
+    let bs : List ℕ = high ∷ low ∷ (file ++ ticks) in
+    let long : 2 + told bs ≤ length bs = omega (arith, e, length-append file ticks) in
+    let body : take (told bs) (drop 2 bs) ≡ file = take-at file ticks (told bs) e in
+    rw (le-ltb (length bs) (2 + told bs) long, body, bad)

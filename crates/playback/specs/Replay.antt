@@ -123,4 +123,4 @@ pub record Comes (count : ℕ) (bytes : List ℕ) (z : Standing) (lent out : Lis
 pub data Parts (p : Plan) : Player → List ℕ → List ℕ → Type 0 where
   reads : (w v : Player) (part more text : List ℕ) → v .state ≡ w .state → v .place ≡ w .place → atHand v ≡ atHand w ++ part → Parts p v more text → Parts p w (part ++ more) text
   plays : (w : Player) (room : ℕ) (more text : List ℕ) → Parts p (playedOn p w room .player) more text → Parts p w more (playedFrom p w room .said ++ text)
-  ends : (w : Player) (more : List ℕ) → (more ≡ []) ⊎ (held ≤ length (atHand w)) → (requestAnswer (atHand w) (placeAt 0) ≡ Accepted → ⊥) → Parts p w more (closed (lastAnswer w) (w .state) (totalsText (w .state)))
+  closes : (w : Player) (more : List ℕ) → (more ≡ []) ⊎ (held ≤ length (atHand w)) → (requestAnswer (atHand w) (placeAt 0) ≡ Accepted → ⊥) → Parts p w more (closed (lastAnswer w) (w .state) (totalsText (w .state)))

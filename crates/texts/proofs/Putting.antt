@@ -153,14 +153,6 @@ put-whole room lent text small h =
     let told = put-fits room 0 lent text (omega arith) in
     rw (told .0, told .1, zero-add) (take-at text (drop (length text) lent) (length text) refl)
 
--- a length stays, whether or not there was room
-pub put-size : (room at : ℕ) (lent text : List ℕ) {xs : List ℕ} → length text ≤ room → xs ≡ putIn room at lent text → length xs ≡ length lent
-put-size room at lent text {xs} small e = go (decLe (at + room) (length lent))
-  where
-    go : Dec (at + room ≤ length lent) → length xs ≡ length lent
-    go (yes h) = ap length (e ∙ put-fits room at lent text h .1) ∙ within-size at lent text (omega arith)
-    go (no h) = ap length (e ∙ sym (put-short room at lent text (omega arith) .1))
-
 -- ---- words, byte by byte
 
 -- the first i words are put; so is one more
@@ -182,9 +174,6 @@ pub words-end : (at i : ℕ) (lent words xs : List ℕ) → at + length words �
 words-end at i lent words xs h l e =
     let told = put-fits (length words) at lent words h in
     (sym (told .0), e ∙ ap (within at lent) (take-all i words l) ∙ sym (told .1))
-
-pub words-size : (at i : ℕ) (lent words xs : List ℕ) → at + length words ≤ length lent → i ≤ length words → xs ≡ within at lent (take i words) → length xs ≡ length lent
-words-size at i lent words xs h l e = ap length e ∙ within-size at lent (take i words) (omega (arith, length-take-le i words l))
 
 -- ---- a number's digits, found from the last one on
 

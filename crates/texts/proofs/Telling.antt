@@ -3,14 +3,14 @@ use mathlib.Core.Path.{_≡_}
 use mathlib.Core.List.{List, _++_}
 use Prim.Native.Nat.{ℕ, _+_, _≤_}
 use native.Mathlib.Omega.{arith}
-use lib.ListN.{length, length-append}
+use lib.ListN.{length, take, length-append}
 use Rattle.tasks.specs.Refusals.{Told, place, task, given, needed, nothing, number, tells}
 use Rattle.tasks.specs.declared.Answer.{Answer}
 use Rattle.tasks.specs.declared.Answer.the-variants.{Accepted, Refused}
 use Rattle.tasks.specs.declared.Refusal.{Refusal}
 use Rattle.texts.specs.Text.{putEnd, putIn, ascii, decimal}
 use Rattle.texts.specs.Telling.{toldText, toldMost, refusalText, refusalMost, answerText}
-use Rattle.texts.proofs.Putting.{digits-few, put-wider}
+use Rattle.texts.proofs.Putting.{digits-few, put-wider, put-whole}
 
 -- ---- how long it can be
 
@@ -32,6 +32,10 @@ refusal-few x = simp length-append (omega (arith, digits-few 20 (number x), tell
 pub answer-few : (a : Answer) (said : List ℕ) (k : ℕ) → refusalMost ≤ k → length said ≤ k → length (answerText a said) ≤ k
 answer-few (Refused x) said k h l = omega (arith, refusal-few x)
 answer-few Accepted said k h l = l
+
+-- a refusal's line is printed whole: what stands in the lent bytes, up to the end that is answered
+pub refusal-whole : (x : Refusal) (lent : List ℕ) → refusalMost ≤ length lent → take (putEnd refusalMost 0 lent (refusalText x)) (putIn refusalMost 0 lent (refusalText x)) ≡ refusalText x
+refusal-whole x lent h = put-whole refusalMost lent (refusalText x) (refusal-few x) h
 
 -- ---- what is told of a refusal that is known
 
