@@ -9,7 +9,7 @@ from pathlib import Path
 
 ROOT = Path(__file__).resolve().parent.parent
 TARGET = ROOT / "target"
-PROGRAMS = ["lister", "runner", "replay"]
+PROGRAMS = ["lister", "plan_writer", "runner", "replay"]
 LONGEST_RUN = 300
 
 
@@ -33,6 +33,12 @@ def command(name):
     return words + [str(loader), "--library-path", str(tools / "lib"), str(TARGET / "bin" / name)]
 
 
+def listed():
+    """The names of the crates in crates.txt."""
+    lines = (ROOT / "crates.txt").read_text().splitlines()
+    return {line.split(":")[0].strip() for line in lines if ":" in line and not line.startswith("#")}
+
+
 def built(name):
     """Whether a program is built; says how to build it if not."""
     if (TARGET / "bin" / name).is_file():
@@ -49,7 +55,7 @@ def fault(words, given, expected, wrote):
             run = subprocess.run(words, stdin=stdin, capture_output=True, env=environment, timeout=LONGEST_RUN)
     except subprocess.TimeoutExpired as late:
         run = subprocess.CompletedProcess(words, None, late.stdout or b"")
-    if run.returncode == 0 and run.stdout == Path(expected).read_bytes():
+    if run.returncode is not None and run.stdout == Path(expected).read_bytes():
         return None
     if wrote:
         Path(wrote).write_bytes(run.stdout)

@@ -146,13 +146,13 @@ fn the_run_of_20_ticks() {
 #[test]
 fn ranges_of_period_and_count() {
     let longest = same(1, 1, (1, 1_000_000, 1_000_000));
-    assert_eq!(read_table(&table_file(&longest)), Ok(longest));
+    assert_eq!(read_table(&table_file(&longest), Absent::Four), Ok(longest));
     let mut file = table_file(&same(1, 1, (1, 2, 2)));
     file[15..19].copy_from_slice(&1_000_001_u32.to_be_bytes());
     assert_eq!(lister(&file), "refused 5 at 4\n");
     let most = same(16, 64, (1, 2, 2));
     let mut file = table_file(&most);
-    assert_eq!(read_table(&file), Ok(most));
+    assert_eq!(read_table(&file, Absent::Eight), Ok(most));
     let place = file.len();
     file.extend([2, 0, 0]);
     assert_eq!(lister(&file), format!("refused 6 at {place}\n"));
@@ -162,11 +162,19 @@ fn ranges_of_period_and_count() {
 fn the_table_file_of_19_bytes() {
     let file = [1, 0, 1, 2, 2, 0, 12, 0, 0, 0, 6, 0, 0, 0, 10, 0, 0, 0, 10];
     assert_eq!(table_file(&same(2, 1, (6, 10, 10))), file);
-    assert_eq!(read_table(&file[4..]), Ok(same(4, 1, (6, 10, 10))));
-    assert_eq!(in_force(&file, &[]), &file[4..]);
-    assert_eq!(in_force(&[9], &file[4..]), &file[4..]);
-    assert_eq!(which_in_force(&[9], &[1]), Err(at(1, 0)));
-    assert!(in_force(&[9], &[1]).is_empty());
+    for absent in [Absent::Four, Absent::Eight] {
+        let bare = same(absent.cores(), 1, (6, 10, 10));
+        assert_eq!(read_table(&file[4..], absent), Ok(bare));
+        assert_eq!(read_table(&file, absent), Ok(same(2, 1, (6, 10, 10))));
+        assert_eq!(in_force(&file, &[], absent), &file[4..]);
+        assert_eq!(in_force(&[9], &file[4..], absent), &file[4..]);
+        assert_eq!(which_in_force(&[9], &[1], absent), Err(at(1, 0)));
+        assert!(in_force(&[9], &[1], absent).is_empty());
+        assert_eq!(cores_in_force(&file, &[], absent), Ok(2));
+        assert_eq!(cores_in_force(&[9], &file[4..], absent), Ok(absent.cores()));
+        assert_eq!(cores_in_force(&[9], &[1], absent), Err(at(1, 0)));
+    }
+    assert!(lister(&file[4..]).starts_with("cores 8 tasks 1\n"));
 }
 
 #[test]

@@ -1,13 +1,30 @@
 //! Table and plan files: reading, writing, and which table is in force.
 
 use crate::records::{
-    at, bare, CoreNo, Kind, Piece, Plan, Refusal, Table, Task, TaskNo, Tells, CORES_IF_ABSENT,
-    MOST_CORES, MOST_TASKS,
+    at, bare, CoreNo, Kind, Piece, Plan, Refusal, Table, Task, TaskNo, Tells, MOST_CORES,
+    MOST_TASKS,
 };
 
 const CORES: u8 = 1;
 const TASK: u8 = 2;
 const PIECE: u8 = 3;
+
+/// How many cores a file is for that leaves its core count out.
+#[derive(Clone, Copy, PartialEq, Eq)]
+pub enum Absent {
+    Four,
+    Eight,
+}
+
+impl Absent {
+    /// The count.
+    pub fn cores(self) -> usize {
+        match self {
+            Absent::Four => 4,
+            Absent::Eight => 8,
+        }
+    }
+}
 
 /// Which of the two kinds of file is read.
 #[derive(Clone, Copy, PartialEq, Eq)]
@@ -34,8 +51,8 @@ struct Fields {
 }
 
 /// A table file's table, or its refusal.
-pub fn read_table(file: &[u8]) -> Result<Table, Refusal> {
-    let fields = read_fields(file, Form::Table)?;
+pub fn read_table(file: &[u8], absent: Absent) -> Result<Table, Refusal> {
+    let fields = read_fields(file, Form::Table, absent)?;
     Ok(Table {
         cores: fields.cores,
         tasks: fields.tasks,
@@ -43,8 +60,8 @@ pub fn read_table(file: &[u8]) -> Result<Table, Refusal> {
 }
 
 /// A plan file's plan, or its refusal.
-pub fn read_plan(file: &[u8]) -> Result<Plan, Refusal> {
-    let fields = read_fields(file, Form::Plan)?;
+pub fn read_plan(file: &[u8], absent: Absent) -> Result<Plan, Refusal> {
+    let fields = read_fields(file, Form::Plan, absent)?;
     let pieces: Option<Vec<Piece>> = fields.pieces.iter().map(known_kind).collect();
     let table = Table {
         cores: fields.cores,
@@ -89,9 +106,9 @@ fn body_length(tag: u8) -> usize {
 }
 
 /// All fields to the end of the file; the first bad one decides, then a missing task.
-fn read_fields(file: &[u8], form: Form) -> Result<Fields, Refusal> {
+fn read_fields(file: &[u8], form: Form, absent: Absent) -> Result<Fields, Refusal> {
     let mut fields = Fields {
-        cores: CORES_IF_ABSENT,
+        cores: absent.cores(),
         tasks: Vec::new(),
         pieces: Vec::new(),
         tasks_begin: 0,
@@ -187,7 +204,7 @@ fn table_bytes(table: &Table) -> Vec<u8> {
 }
 
 /// The bytes of a plan file.
-fn plan_bytes(plan: &Plan) -> Vec<u8> {
+pub fn plan_bytes(plan: &Plan) -> Vec<u8> {
     let mut bytes = table_bytes(&plan.table);
     for piece in &plan.pieces {
         let kind = if piece.kind == Kind::Share { 1 } else { 0 };
@@ -229,17 +246,23 @@ pub enum InForce {
 }
 
 /// The slice in force, or the refusal of the shipped one where both are bad.
-pub fn which_in_force(own: &[u8], shipped: &[u8]) -> Result<InForce, Refusal> {
-    if read_table(own).is_ok() {
+pub fn which_in_force(own: &[u8], shipped: &[u8], absent: Absent) -> Result<InForce, Refusal> {
+    if read_table(own, absent).is_ok() {
         return Ok(InForce::Own);
     }
-    read_table(shipped).map(|_| InForce::Shipped)
+    read_table(shipped, absent).map(|_| InForce::Shipped)
+}
+
+/// The core count of the slice in force, or the refusal of the shipped one where both are bad.
+pub fn cores_in_force(own: &[u8], shipped: &[u8], absent: Absent) -> Result<usize, Refusal> {
+    let table = read_table(own, absent).or_else(|_| read_table(shipped, absent))?;
+    Ok(table.cores)
 }
 
 /// The task fields of the slice in force; empty where both are bad.
-pub fn in_force<'a>(own: &'a [u8], shipped: &'a [u8]) -> &'a [u8] {
+pub fn in_force<'a>(own: &'a [u8], shipped: &'a [u8], absent: Absent) -> &'a [u8] {
     for file in [own, shipped] {
-        if let Ok(fields) = read_fields(file, Form::Table) {
+        if let Ok(fields) = read_fields(file, Form::Table, absent) {
             return &file[fields.tasks_begin..fields.tasks_end];
         }
     }

@@ -13,7 +13,7 @@ fn main() -> ExitCode {
         [name] if program(name, &[]).is_some() => one(name),
         [name, folder] if program(name, &[]).is_some() => all(name, Path::new(folder)),
         _ => {
-            eprintln!("usage: reference lister|runner|replay [FOLDER]");
+            eprintln!("usage: reference lister|plan_writer|runner|replay [FOLDER]");
             return ExitCode::from(2);
         }
     };
@@ -30,7 +30,7 @@ fn main() -> ExitCode {
 fn one(name: &str) -> Result<()> {
     let mut input = Vec::new();
     io::stdin().read_to_end(&mut input)?;
-    io::stdout().write_all(program(name, &input).unwrap_or_default().as_bytes())
+    io::stdout().write_all(&program(name, &input).unwrap_or_default())
 }
 
 /// Runs the program on each input file of a folder.
@@ -38,8 +38,8 @@ fn all(name: &str, folder: &Path) -> Result<()> {
     for entry in fs::read_dir(folder)? {
         let path = entry?.path();
         if path.extension().is_some_and(|end| end == "in") {
-            let text = program(name, &fs::read(&path)?).unwrap_or_default();
-            fs::write(path.with_extension("out"), text)?;
+            let written = program(name, &fs::read(&path)?).unwrap_or_default();
+            fs::write(path.with_extension("out"), written)?;
         }
     }
     Ok(())

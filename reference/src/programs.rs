@@ -1,20 +1,29 @@
 //! What the programs print for their standard input.
 
 use crate::dispatcher::{tick, State};
-use crate::files::{read_plan, read_table};
+use crate::files::{plan_bytes, read_plan, read_table, Absent};
 use crate::planner::layout;
 use crate::records::{at, Kind, Plan, Refusal, TaskNo, Tells, MOST_TASKS};
 
 const RUNNER_TICKS: usize = 20;
+/// The boards that are shipped now have eight cores.
+const ABSENT: Absent = Absent::Eight;
 
-/// What the named program prints, if there is one of that name.
-pub fn program(name: &str, input: &[u8]) -> Option<String> {
+/// What the named program writes to standard output, if there is one of that name.
+pub fn program(name: &str, input: &[u8]) -> Option<Vec<u8>> {
     match name {
-        "lister" => Some(lister(input)),
-        "runner" => Some(runner(input)),
-        "replay" => Some(replay(input)),
+        "lister" => Some(lister(input).into_bytes()),
+        "plan_writer" => Some(plan_writer(input)),
+        "runner" => Some(runner(input).into_bytes()),
+        "replay" => Some(replay(input).into_bytes()),
         _ => None,
     }
+}
+
+/// A table file's plan file; a refusal goes to standard error, which is not compared.
+pub fn plan_writer(input: &[u8]) -> Vec<u8> {
+    let plan = read_table(input, ABSENT).and_then(|table| layout(&table));
+    plan.map_or(Vec::new(), |plan| plan_bytes(&plan))
 }
 
 /// The one line that a refusal prints.
@@ -46,7 +55,7 @@ fn totals_line(state: &State) -> String {
 
 /// A table file's plan, piece by piece.
 pub fn lister(input: &[u8]) -> String {
-    let plan = match read_table(input).and_then(|table| layout(&table)) {
+    let plan = match read_table(input, ABSENT).and_then(|table| layout(&table)) {
         Ok(plan) => plan,
         Err(refusal) => return refusal_line(refusal),
     };
@@ -68,7 +77,7 @@ pub fn lister(input: &[u8]) -> String {
 
 /// A plan file's first 20 ticks, all released as soon as allowed.
 pub fn runner(input: &[u8]) -> String {
-    let plan = match read_plan(input) {
+    let plan = match read_plan(input, ABSENT) {
         Ok(plan) => plan,
         Err(refusal) => return refusal_line(refusal),
     };
@@ -88,7 +97,7 @@ pub fn replay(input: &[u8]) -> String {
     let Some((file, ticks)) = split_plan(input) else {
         return refusal_line(at(1, 0));
     };
-    match read_plan(file) {
+    match read_plan(file, ABSENT) {
         Ok(plan) => replay_ticks(&plan, ticks, 2 + file.len()),
         Err(refusal) => refusal_line(refusal),
     }

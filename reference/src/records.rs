@@ -4,7 +4,6 @@ pub const MOST_CORES: usize = 16;
 pub const MOST_TASKS: usize = 64;
 pub const MOST_PIECES: usize = 128;
 pub const LONGEST_PERIOD: u32 = 1_000_000;
-pub const CORES_IF_ABSENT: usize = 4;
 
 /// A task's number, counted from 0 in table order.
 #[derive(Clone, Copy, Debug, PartialEq, Eq, PartialOrd, Ord)]

@@ -1,4 +1,5 @@
 // Our side of the benchmark: a table file planned, and ticks of a plan file at full rate, each told as a checksum.
+use files::Default;
 use jobs::CoreRun;
 use jobs::Runner;
 use jobs::Tasks;
@@ -61,7 +62,7 @@ fn of_runs(sum: u64, runs: [CoreRun; 16], cores: usize) -> u64 {
 // The table file planned; 0 on a refusal.
 #[no_mangle]
 pub extern "C" fn bench_ours_plan(table: &[u8]) -> u64 {
-    let read = files::read_table(table);
+    let read = files::read_table(Default::Eight, table);
     let given = read.table;
     let planned = planner::plan_table(given);
     let answer = planned.answer;
@@ -74,7 +75,7 @@ pub extern "C" fn bench_ours_plan(table: &[u8]) -> u64 {
 // Ticks of the plan file from a fresh state, every task released as soon as allowed; 0 on a refusal.
 #[no_mangle]
 pub extern "C" fn bench_ours_ticks(plan: &[u8], count: u32) -> u64 {
-    let read = files::read_plan(plan);
+    let read = files::read_plan(Default::Eight, plan);
     let plan = read.plan;
     let none = Tasks {
         members: [TaskNo(0); 64],

@@ -2,7 +2,9 @@
 use board::Ran;
 use bounds::Bounding;
 use dispatch::State;
+use files::Default;
 use files::ReadTable;
+use force::CoresInForce;
 use force::InForce;
 use jobs::Job;
 use jobs::Phase;
@@ -84,17 +86,23 @@ fn periods() {
     say_answer(b"period 1000001: ", tasks::check_table(table(1, 1000001)));
     say_read(
         b"period 1000000 in a file: ",
-        files::read_table(&[2, 0, 12, 0, 0, 0, 6, 0, 0, 0, 10, 0, 15, 66, 64]),
+        files::read_table(
+            Default::Eight,
+            &[2, 0, 12, 0, 0, 0, 6, 0, 0, 0, 10, 0, 15, 66, 64],
+        ),
     );
     say_read(
         b"period 1000001 in a file: ",
-        files::read_table(&[2, 0, 12, 0, 0, 0, 6, 0, 0, 0, 10, 0, 15, 66, 65]),
+        files::read_table(
+            Default::Eight,
+            &[2, 0, 12, 0, 0, 0, 6, 0, 0, 0, 10, 0, 15, 66, 65],
+        ),
     );
 }
 
-// A file of so many tasks, fed field by field.
-fn fed(count: usize) -> ReadTable {
-    let mut reader = files::start_table();
+// A file of so many tasks, fed field by field and read with this default.
+fn fed(default: Default, count: usize) -> ReadTable {
+    let mut reader = files::start_table(default);
     let mut i = 0;
     while i < count {
         reader = files::feed(reader, &[2, 0, 12, 0, 0, 0, 6, 0, 0, 0, 10, 0, 0, 0, 10]);
@@ -105,17 +113,22 @@ fn fed(count: usize) -> ReadTable {
 
 // 64 tasks are read, 65 not.
 fn counts() {
-    say_read(b"64 tasks: ", fed(64));
-    say_read(b"65 tasks: ", fed(65));
-    say_read(b"no task: ", fed(0));
+    say_read(b"64 tasks: ", fed(Default::Eight, 64));
+    say_read(b"65 tasks: ", fed(Default::Eight, 65));
+    say_read(b"no task: ", fed(Default::Eight, 0));
 }
 
-// If the core count is absent, it is 4.
-fn cores() {
-    say(b"no core count: ");
+// If the core count is absent, it is the default.
+fn absent(words: &[u8], default: Default) {
+    say(words);
     let mut text = [0u8; 16384];
-    let n = planlines::lister(&mut text, 0, fed(1));
+    let n = planlines::lister(&mut text, 0, fed(default, 1));
     console::print(&text, n);
+}
+
+fn cores() {
+    absent(b"no core count, four being the default: ", Default::Four);
+    absent(b"no core count, eight being the default: ", Default::Eight);
 }
 
 // A table file for two cores and one task is 19 bytes, and the byte past them stays as it was.
@@ -137,32 +150,50 @@ fn reading_back(plan: Plan) {
     say_written(b"a plan file: ", written);
     if let Written::Length(length) = written {
         let mut text = [0u8; 16384];
-        let n = ticklines::runner(&mut text, 0, console::plan_in(&file, length));
+        let n = ticklines::runner(
+            &mut text,
+            0,
+            console::plan_in(Default::Eight, &file, length),
+        );
         console::print(&text, n);
     }
 }
 
-// The table in force: how many bytes of task fields, and whose they are or why there are none.
-fn in_force<'a>(words: &'a [u8], own: &'a [u8], shipped: &'a [u8]) {
+// How many cores the table in force is for, or why it is not known.
+fn cores_in_force<'a>(default: Default, own: &'a [u8], shipped: &'a [u8]) {
+    say(b"its cores: ");
+    match force::cores_in_force(default, own, shipped) {
+        CoresInForce::Cores(count) => {
+            io::print_decimal(STDOUT_FILENO, count as u64);
+            say(b"\n");
+        }
+        CoresInForce::NoTable(refusal) => console::print_refusal(refusal),
+    }
+}
+
+// The table in force: how many bytes of task fields, whose they are or why there are none, and for how many cores.
+fn in_force<'a>(words: &'a [u8], default: Default, own: &'a [u8], shipped: &'a [u8]) {
     say(words);
-    let part = force::table_in_force(own, shipped);
+    let part = force::table_in_force(default, own, shipped);
     io::print_decimal(STDOUT_FILENO, part.len() as u64);
     say(b" bytes of task fields, ");
-    match force::which_in_force(own, shipped) {
+    match force::which_in_force(default, own, shipped) {
         InForce::Own => say(b"the machine's own\n"),
         InForce::Shipped => say(b"the shipped ones\n"),
         InForce::Neither(refusal) => console::print_refusal(refusal),
     }
+    cores_in_force(default, own, shipped);
 }
 
 fn forces() {
     let good = [1u8, 0, 1, 2, 2, 0, 12, 0, 0, 0, 6, 0, 0, 0, 10, 0, 0, 0, 10];
     let bare = [2u8, 0, 12, 0, 0, 0, 6, 0, 0, 0, 10, 0, 0, 0, 10];
     let bad = [1u8, 0, 1];
-    in_force(b"both good: ", &bare, &good);
-    in_force(b"the machine's own good: ", &good, &bad);
-    in_force(b"the shipped one good: ", &bad, &good);
-    in_force(b"both bad: ", &bad, &bad);
+    in_force(b"both good: ", Default::Eight, &bare, &good);
+    in_force(b"both good, on an old board: ", Default::Four, &bare, &good);
+    in_force(b"the machine's own good: ", Default::Eight, &good, &bad);
+    in_force(b"the shipped one good: ", Default::Eight, &bad, &good);
+    in_force(b"both bad: ", Default::Eight, &bad, &bad);
 }
 
 // A plan made by hand that misses deadlines: two tasks (10,10,10) on one core, the first whole.

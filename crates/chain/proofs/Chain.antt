@@ -19,6 +19,7 @@ use Rattle.planner.specs.Layout.{start, planned}
 use Rattle.files.proofs.Clean.{clean-plan-is}
 use Rattle.files.specs.Files.{tableRead, planRead}
 use Rattle.files.specs.Reading.{cleanPlan}
+use Rattle.files.specs.declared.Default.{Default}
 use Rattle.writing.specs.Fields.{planBytes}
 use Rattle.writing.specs.Writing.{planWritten, planFilled}
 use Rattle.writing.specs.declared.Written.the-variants.{Length}
@@ -55,18 +56,18 @@ module _ (t : Table) (h : planned t .answer ≡ Accepted) where
   taken e room = rw (planned-shape t h, le-leb (length (planBytes (planned t .plan))) (length e) room)
 
   -- and what it leaves in the buffer reads back to it
-  reads-back : (e : List ℕ) (n : ℕ) → planWritten (planned t .plan) e ≡ Length n → planRead (take n (planFilled (planned t .plan) e)) ≡ record { answer = Accepted; plan = planned t .plan }
-  reads-back e n w = plan-out-and-in (planned t .plan) e (planFilled (planned t .plan) e) n (planRead (take n (planFilled (planned t .plan) e))) (sym w) refl refl ∙ ap (λ (v : Plan). record { answer = Accepted; plan = v }) same
+  reads-back : (c : Default) (e : List ℕ) (n : ℕ) → planWritten (planned t .plan) e ≡ Length n → planRead c (take n (planFilled (planned t .plan) e)) ≡ record { answer = Accepted; plan = planned t .plan }
+  reads-back c e n w = plan-out-and-in c (planned t .plan) e (planFilled (planned t .plan) e) n (planRead c (take n (planFilled (planned t .plan) e))) (sym w) refl refl ∙ ap (λ (v : Plan). record { answer = Accepted; plan = v }) same
 
 -- bytes that are a table file whose table is planned: all of the chain holds
-pub bytes-to-deadlines : (s : List ℕ) → Slice s → tableRead s .answer ≡ Accepted → planned (tableIn s) .answer ≡ Accepted → Served s
-bytes-to-deadlines s lent a h =
-    let d : PlanOf (tableIn s) (planFor s) × Demand3 (planFor s) = no-job-is-late (tableIn s) h in
+pub bytes-to-deadlines : (d : Default) (s : List ℕ) → Slice s → tableRead d s .answer ≡ Accepted → planned (tableIn d s) .answer ≡ Accepted → Served d s
+bytes-to-deadlines d s lent a h =
+    let promised : PlanOf (tableIn d s) (planFor d s) × Demand3 (planFor d s) = no-job-is-late (tableIn d s) h in
     record {
-      good = table-is-good s lent a;
-      plan = d .0;
-      room = taken (tableIn s) h;
-      back = reads-back (tableIn s) h;
-      onTime = d .1;
-      kept = λ finished released see n x. kept-after finished released see (planFor s) n x freshState;
+      good = table-is-good d s lent a;
+      plan = promised .0;
+      room = taken (tableIn d s) h;
+      back = reads-back (tableIn d s) h;
+      onTime = promised .1;
+      kept = λ finished released see n x. kept-after finished released see (planFor d s) n x freshState;
     }

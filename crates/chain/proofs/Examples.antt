@@ -24,6 +24,7 @@ use Rattle.planner.specs.Whole.{put, takesWhole}
 use Rattle.files.specs.Fields.{tagFits, verdict, hold, pieceTaken, nextField, added, step, read}
 use Rattle.files.specs.Files.{tableRead}
 use Rattle.files.specs.Grammar.{refusal, valuesFault}
+use Rattle.files.specs.declared.Default.the-variants.{Eight}
 use Rattle.files.specs.Reading.{ended, tableEnded, tableClosed}
 use Rattle.trips.proofs.Files.{Slice}
 use Rattle.chain.specs.Served.{tableIn, Served}
@@ -51,15 +52,15 @@ lent = record { small = λ i. go i (decLt i (length three)); most = omega arith 
     go i (no l) = let past : length three ≤ i = omega arith in omega (arith, List·getD-eq-default three 0 past)
 
 -- they are read as a table
-three-read : tableRead three .answer ≡ Accepted
+three-read : tableRead Eight three .answer ≡ Accepted
 unfolding tableRead tableClosed tableEnded read step verdict hold tagFits valuesFault pieceTaken nextField added further ended refusal checkedTasks any first
 three-read = refl
 
 -- the table is planned
-three-planned : planned (tableIn three) .answer ≡ Accepted
+three-planned : planned (tableIn Eight three) .answer ≡ Accepted
 unfolding tableRead tableClosed tableEnded read step verdict hold tagFits valuesFault pieceTaken nextField added further ended refusal planned start layFirst place takesWhole shareFrom giveShare close put limitOf allowance bound load localDeadline costs interference periods above all any first sum padded tabulate checkedTasks
 three-planned = refl
 
 -- so the chain holds of them
-pub three-served : Served three
-three-served = bytes-to-deadlines three lent three-read three-planned
+pub three-served : Served Eight three
+three-served = bytes-to-deadlines Eight three lent three-read three-planned

@@ -3,6 +3,7 @@
 ghost use mathlib.Core.Path.{_≡_};
 ghost use lib.ListN.{take};
 ghost use Rattle.files.specs.Files.{planRead};
+use files::Default;
 use files::ReadPlan;
 use files::ReadTable;
 use files::Reader;
@@ -40,24 +41,24 @@ fn feed_all(reader: Reader) -> Reader {
     fed.reader
 }
 
-// The table file on standard input.
-pub fn read_table() -> ReadTable {
-    files::close_table(feed_all(files::start_table()))
+// The table file on standard input, read with this default.
+pub fn read_table(default: Default) -> ReadTable {
+    files::close_table(feed_all(files::start_table(default)))
 }
 
-// The plan file on standard input.
-pub fn read_plan() -> ReadPlan {
-    files::close_plan(feed_all(files::start_plan()))
+// The plan file on standard input, read with this default.
+pub fn read_plan(default: Default) -> ReadPlan {
+    files::close_plan(feed_all(files::start_plan(default)))
 }
 
-// The first n bytes of a buffer, or all that it has, read as a plan file.
-pub fn plan_in(bytes: &[u8], n: usize) -> ReadPlan
-    ensures { λ r. ⌜ r ≡ planRead (take n (now (bytes .entry))) ⌝ }
+// The first n bytes of a buffer, or all that it has, read as a plan file with this default.
+pub fn plan_in(default: Default, bytes: &[u8], n: usize) -> ReadPlan
+    ensures { λ r. ⌜ r ≡ planRead default (take n (now (bytes .entry))) ⌝ }
 {
     if bytes.len() < n {
-        return files::read_plan(bytes);
+        return files::read_plan(default, bytes);
     }
-    files::read_plan(&bytes[..n])
+    files::read_plan(default, &bytes[..n])
 }
 
 // Writes the first n bytes of a buffer to a file, or all that it has.

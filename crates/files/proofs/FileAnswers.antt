@@ -17,6 +17,7 @@ use Rattle.tasks.specs.declared.Answer.the-variants.{Accepted, Refused}
 use Rattle.tasks.specs.declared.Refusal.{Refusal}
 use Rattle.tasks.specs.declared.Refusal.the-variants.{TasksAt, NoPlanShape}
 use Rattle.plans.specs.declared.Plan.{Plan}
+use Rattle.files.specs.declared.Default.{Default}
 use Rattle.files.specs.declared.ReadPlan.{ReadPlan}
 use Rattle.files.specs.declared.ReadTable.{ReadTable}
 use Rattle.files.specs.Files.{tableRead, planRead, answerTo}
@@ -37,14 +38,14 @@ plan-has Accepted p = refl
 plan-has (Refused x) p = refl
 
 -- a table file's answer is its fields'
-pub table-answer : (s : List ℕ) → Fits s → tableRead s .answer ≡ fieldsGood false (fieldsOf s)
+pub table-answer : (d : Default) (s : List ℕ) → Fits s → tableRead d s .answer ≡ fieldsGood false (fieldsOf s)
 unfolding tableSaid
-table-answer s lent = ap (λ (r : ReadTable). r .answer) (table-as-said s lent) ∙ table-has (fieldsGood false (fieldsOf s)) (recordIn (fieldsOf s))
+table-answer d s lent = ap (λ (r : ReadTable). r .answer) (table-as-said d s lent) ∙ table-has (fieldsGood false (fieldsOf s)) (recordIn d (fieldsOf s))
 
 -- a plan file's answer is its fields', then the shape's
-pub plan-answer : (s : List ℕ) → Fits s → planRead s .answer ≡ andThen (fieldsGood true (fieldsOf s)) (shapeGood (fieldsOf s) (recordIn (fieldsOf s)))
+pub plan-answer : (d : Default) (s : List ℕ) → Fits s → planRead d s .answer ≡ andThen (fieldsGood true (fieldsOf s)) (shapeGood (fieldsOf s) (recordIn d (fieldsOf s)))
 unfolding planSaid
-plan-answer s lent = ap (λ (r : ReadPlan). r .answer) (plan-as-said s lent) ∙ plan-has (andThen (fieldsGood true (fieldsOf s)) (shapeGood (fieldsOf s) (recordIn (fieldsOf s)))) (recordIn (fieldsOf s))
+plan-answer d s lent = ap (λ (r : ReadPlan). r .answer) (plan-as-said d s lent) ∙ plan-has (andThen (fieldsGood true (fieldsOf s)) (shapeGood (fieldsOf s) (recordIn d (fieldsOf s)))) (recordIn d (fieldsOf s))
 
 -- the shape is refused with 8 only
 shape-eight : (c : Bool) (x : Refusal) → number x < 7 → cond c Accepted (Refused NoPlanShape) ≡ Refused x → ⊥
@@ -57,11 +58,11 @@ then-refused Accepted b x n h = absurd (n h)
 then-refused (Refused y) b x n h = h
 
 -- a file gets a refusal below 7 exactly when its fields get it
-pub by-fields : (o : Bool) (s : List ℕ) → Fits s → (x : Refusal) → number x < 7 → Exactly (answerTo o s ≡ Refused x) (fieldsGood o (fieldsOf s) ≡ Refused x)
-by-fields false s lent x l = record { only = λ h. sym (table-answer s lent) ∙ h; when = λ h. table-answer s lent ∙ h }
-by-fields true s lent x l = record {
-  only = λ h. then-refused (fieldsGood true (fieldsOf s)) (shapeGood (fieldsOf s) (recordIn (fieldsOf s))) x (λ q. shape-eight (shapeFits (fieldsOf s) (recordIn (fieldsOf s))) x l q) (sym (plan-answer s lent) ∙ h);
-  when = λ h. plan-answer s lent ∙ ap (λ (a : Answer). andThen a (shapeGood (fieldsOf s) (recordIn (fieldsOf s)))) h;
+pub by-fields : (d : Default) (o : Bool) (s : List ℕ) → Fits s → (x : Refusal) → number x < 7 → Exactly (answerTo d o s ≡ Refused x) (fieldsGood o (fieldsOf s) ≡ Refused x)
+by-fields d false s lent x l = record { only = λ h. sym (table-answer d s lent) ∙ h; when = λ h. table-answer d s lent ∙ h }
+by-fields d true s lent x l = record {
+  only = λ h. then-refused (fieldsGood true (fieldsOf s)) (shapeGood (fieldsOf s) (recordIn d (fieldsOf s))) x (λ q. shape-eight (shapeFits (fieldsOf s) (recordIn d (fieldsOf s))) x l q) (sym (plan-answer d s lent) ∙ h);
+  when = λ h. plan-answer d s lent ∙ ap (λ (a : Answer). andThen a (shapeGood (fieldsOf s) (recordIn d (fieldsOf s)))) h;
 }
 
 -- no task is refused with 6 only

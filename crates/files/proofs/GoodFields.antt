@@ -13,8 +13,10 @@ use Rattle.tasks.specs.Tables.{noTask, coresFit, valuesFit, checkedTasks}
 use Rattle.tasks.specs.declared.Answer.the-variants.{Accepted}
 use Rattle.tasks.specs.declared.Task.{Task}
 use Rattle.plans.specs.Pieces.{taskOf}
-use Rattle.files.specs.Grammar.{Before, tagOf, taskOfField, start, behind, inPlace, valuesFault, fault, judged, tasksIn, piecesIn, kindsFit, coresIn, recordIn}
+use Rattle.files.specs.Grammar.{Before, tagOf, defaultCores, taskOfField, start, behind, inPlace, valuesFault, fault, judged, tasksIn, piecesIn, kindsFit, coresIn, recordIn}
 use Rattle.files.specs.Rules.{BodyGood}
+use Rattle.files.specs.declared.Default.{Default}
+use Rattle.files.specs.declared.Default.the-variants.{Four, Eight}
 use Rattle.files.proofs.Filled.{filled-get}
 use Rattle.files.proofs.Found.{cores-good, values-good}
 use Rattle.files.proofs.Named.{tasks-more, tasks-other, pieces-other, kinds-other}
@@ -67,20 +69,25 @@ tasks-good o (f ∷ fs) b j l h = go (ℕ-discrete (tagOf f) 2) (tasks-good o fs
         let g : TasksGood (behind b f .tasks) (tasksIn fs) = ih (omega (arith, same)) later in
         rw (tasks-other f fs t) (record { room = omega (arith, g .room, same); values = g .values })
 
+-- a default is 1 to 16
+default-fits : (d : Default) → coresFit (defaultCores d) ≡ true
+default-fits Four = refl
+default-fits Eight = refl
+
 -- the core count of good fields is 1 to 16
-cores-fit : (o : Bool) (fs : List (List ℕ)) → judged o start 0 fs ≡ Accepted → coresFit (coresIn fs) ≡ true
-cores-fit o [] h = refl
-cores-fit o (f ∷ fs) h = go (ℕ-discrete (tagOf f) 1)
+cores-fit : (d : Default) (o : Bool) (fs : List (List ℕ)) → judged o start 0 fs ≡ Accepted → coresFit (coresIn d fs) ≡ true
+cores-fit d o [] h = default-fits d
+cores-fit d o (f ∷ fs) h = go (ℕ-discrete (tagOf f) 1)
   where
-    go : Dec (tagOf f ≡ 1) → coresFit (coresIn (f ∷ fs)) ≡ true
+    go : Dec (tagOf f ≡ 1) → coresFit (coresIn d (f ∷ fs)) ≡ true
     go (yes t) = rw (eq-eqb (tagOf f) 1 t) (cores-good f t (values-of o start f (first-good o f fs start 0 h)))
-    go (no t) = rw (ne-eqb (tagOf f) 1 t)
+    go (no t) = rw (ne-eqb (tagOf f) 1 t) (default-fits d)
 
 -- good fields with a task name a good table
-pub table-good : (o : Bool) (fs : List (List ℕ)) → judged o start 0 fs ≡ Accepted → 1 ≤ length (tasksIn fs) → checkedTasks (coresIn fs) (length (tasksIn fs)) (taskOf (recordIn fs)) ≡ Accepted
-table-good o fs h some =
+pub table-good : (d : Default) (o : Bool) (fs : List (List ℕ)) → judged o start 0 fs ≡ Accepted → 1 ≤ length (tasksIn fs) → checkedTasks (coresIn d fs) (length (tasksIn fs)) (taskOf (recordIn d fs)) ≡ Accepted
+table-good d o fs h some =
     let g : TasksGood 0 (tasksIn fs) = tasks-good o fs start 0 (omega arith) h in
-    all-good (coresIn fs) (length (tasksIn fs)) (taskOf (recordIn fs)) (cores-fit o fs h) (both-make (le-leb 1 (length (tasksIn fs)) some) (le-leb (length (tasksIn fs)) 64 (omega (arith, g .room)))) (λ i l. rw (filled-get 64 noTask (tasksIn fs) i) (g .values i l))
+    all-good (coresIn d fs) (length (tasksIn fs)) (taskOf (recordIn d fs)) (cores-fit d o fs h) (both-make (le-leb 1 (length (tasksIn fs)) some) (le-leb (length (tasksIn fs)) 64 (omega (arith, g .room)))) (λ i l. rw (filled-get 64 noTask (tasksIn fs) i) (g .values i l))
 
 -- there are at most 64 of them
 pub tasks-few : (o : Bool) (fs : List (List ℕ)) → judged o start 0 fs ≡ Accepted → length (tasksIn fs) ≤ 64

@@ -17,6 +17,7 @@ pub mod FileAnswers
 pub mod HandMade
 pub mod Refused
 pub mod Cores
+pub mod Defaults
 pub mod Shape
 pub mod Row
 pub mod Earlier

@@ -16,6 +16,7 @@ use Rattle.tasks.specs.declared.Answer.the-variants.{Accepted, Refused}
 use Rattle.tasks.specs.declared.Refusal.{Refusal}
 use Rattle.tasks.specs.declared.Refusal.the-variants.{TasksAt, NoPlanShape}
 use Rattle.files.specs.Files.{planRead}
+use Rattle.files.specs.declared.Default.{Default}
 use Rattle.files.specs.Grammar.{Before, fieldsOf, start, behind, fault, judged, tasksIn, tasksEnd, recordIn, someTask, fieldsGood, shapeFits, shapeGood}
 use Rattle.files.proofs.Exactly.{Exactly, chain}
 use Rattle.files.proofs.Telling.{refusal-number, fault-most, says-shape}
@@ -45,28 +46,28 @@ fields-number o fs x h = go _ refl h
     go Accepted e q = some (eqb (length (tasksIn fs)) 0) (rw e at q)
     go (Refused y) e q = judged-number o fs start 0 x (e ∙ (rw e at q))
 
-module _ (s : List ℕ) (lent : Fits s) where
+module _ (d : Default) (s : List ℕ) (lent : Fits s) where
   -- what good fields with a task have by their shape
-  by-shape : fieldsGood true (fieldsOf s) ≡ Accepted → planRead s .answer ≡ shapeGood (fieldsOf s) (recordIn (fieldsOf s))
-  by-shape h = plan-answer s lent ∙ ap (λ (a : Answer). andThen a (shapeGood (fieldsOf s) (recordIn (fieldsOf s)))) h
+  by-shape : fieldsGood true (fieldsOf s) ≡ Accepted → planRead d s .answer ≡ shapeGood (fieldsOf s) (recordIn d (fieldsOf s))
+  by-shape h = plan-answer d s lent ∙ ap (λ (a : Answer). andThen a (shapeGood (fieldsOf s) (recordIn d (fieldsOf s)))) h
 
   -- a plan file is accepted exactly when its fields are good, one is a task, and it has the shape
-  pub plan-accepted : Exactly (planRead s .answer ≡ Accepted) ((fieldsGood true (fieldsOf s) ≡ Accepted) × (shapeFits (fieldsOf s) (recordIn (fieldsOf s)) ≡ true))
+  pub plan-accepted : Exactly (planRead d s .answer ≡ Accepted) ((fieldsGood true (fieldsOf s) ≡ Accepted) × (shapeFits (fieldsOf s) (recordIn d (fieldsOf s)) ≡ true))
   plan-accepted = record { only = only; when = λ h. by-shape (h .0) ∙ rw (h .1) }
     where
-      only : planRead s .answer ≡ Accepted → (fieldsGood true (fieldsOf s) ≡ Accepted) × (shapeFits (fieldsOf s) (recordIn (fieldsOf s)) ≡ true)
+      only : planRead d s .answer ≡ Accepted → (fieldsGood true (fieldsOf s) ≡ Accepted) × (shapeFits (fieldsOf s) (recordIn d (fieldsOf s)) ≡ true)
       only h =
-          let b : (fieldsGood true (fieldsOf s) ≡ Accepted) × (shapeGood (fieldsOf s) (recordIn (fieldsOf s)) ≡ Accepted) = both-accepted (fieldsGood true (fieldsOf s)) (shapeGood (fieldsOf s) (recordIn (fieldsOf s))) (sym (plan-answer s lent) ∙ h) in
-          (b .0, met (shapeFits (fieldsOf s) (recordIn (fieldsOf s))) NoPlanShape (b .1))
+          let b : (fieldsGood true (fieldsOf s) ≡ Accepted) × (shapeGood (fieldsOf s) (recordIn d (fieldsOf s)) ≡ Accepted) = both-accepted (fieldsGood true (fieldsOf s)) (shapeGood (fieldsOf s) (recordIn d (fieldsOf s))) (sym (plan-answer d s lent) ∙ h) in
+          (b .0, met (shapeFits (fieldsOf s) (recordIn d (fieldsOf s))) NoPlanShape (b .1))
 
   -- 8: it is refused so exactly when its fields are good, one is a task, and it does not have the shape
-  pub bad-shape : Exactly (Refuses (planRead s .answer) 8 nothing) ((fieldsGood true (fieldsOf s) ≡ Accepted) × (shapeFits (fieldsOf s) (recordIn (fieldsOf s)) ≡ false))
-  bad-shape = chain (says-shape (planRead s .answer)) (record { only = λ h. only _ refl (sym (plan-answer s lent) ∙ h); when = λ h. by-shape (h .0) ∙ rw (h .1) })
+  pub bad-shape : Exactly (Refuses (planRead d s .answer) 8 nothing) ((fieldsGood true (fieldsOf s) ≡ Accepted) × (shapeFits (fieldsOf s) (recordIn d (fieldsOf s)) ≡ false))
+  bad-shape = chain (says-shape (planRead d s .answer)) (record { only = λ h. only _ refl (sym (plan-answer d s lent) ∙ h); when = λ h. by-shape (h .0) ∙ rw (h .1) })
     where
       fails : (c : Bool) → cond c Accepted (Refused NoPlanShape) ≡ Refused NoPlanShape → c ≡ false
       fails true q = accepted-not (sym q)
       fails false q = refl
 
-      only : (a : Answer) → fieldsGood true (fieldsOf s) ≡ a → andThen (fieldsGood true (fieldsOf s)) (shapeGood (fieldsOf s) (recordIn (fieldsOf s))) ≡ Refused NoPlanShape → (fieldsGood true (fieldsOf s) ≡ Accepted) × (shapeFits (fieldsOf s) (recordIn (fieldsOf s)) ≡ false)
-      only Accepted e h = (e, fails (shapeFits (fieldsOf s) (recordIn (fieldsOf s))) (rw e at h))
+      only : (a : Answer) → fieldsGood true (fieldsOf s) ≡ a → andThen (fieldsGood true (fieldsOf s)) (shapeGood (fieldsOf s) (recordIn d (fieldsOf s))) ≡ Refused NoPlanShape → (fieldsGood true (fieldsOf s) ≡ Accepted) × (shapeFits (fieldsOf s) (recordIn d (fieldsOf s)) ≡ false)
+      only Accepted e h = (e, fails (shapeFits (fieldsOf s) (recordIn d (fieldsOf s))) (rw e at h))
       only (Refused y) e h = let q : number NoPlanShape < 7 = fields-number true (fieldsOf s) NoPlanShape (e ∙ (rw e at h)) in absurd (omega arith)

@@ -17,6 +17,8 @@ use Rattle.plans.specs.declared.Kind.{Kind}
 use Rattle.plans.specs.declared.Kind.the-variants.{Whole, Share}
 use Rattle.plans.specs.declared.Piece.{Piece}
 use Rattle.plans.specs.declared.Plan.{Plan}
+use Rattle.files.specs.declared.Default.{Default}
+use Rattle.files.specs.declared.Default.the-variants.{Four, Eight}
 use Rattle.files.specs.declared.ReadPlan.{ReadPlan}
 use Rattle.files.specs.declared.ReadTable.{ReadTable}
 
@@ -52,9 +54,10 @@ tagOf f = getD f 0 0
 abbrev pub lengthFor : ℕ → ℕ
 lengthFor g = cond (eqb g 1) 1 (cond (eqb g 2) 12 7)
 
--- if the core count is absent it is 4
-abbrev pub defaultCores : ℕ
-defaultCores = 4
+-- if the core count is absent it is the default that is stated, 4 or 8
+abbrev pub defaultCores : Default → ℕ
+defaultCores Four = 4
+defaultCores Eight = 8
 
 -- tag 2: a task; c, d, p of four bytes each
 abbrev pub taskOfField : List ℕ → Task
@@ -138,10 +141,10 @@ unfoldable pub kindsFit : List (List ℕ) → Bool
 kindsFit [] = true
 kindsFit (f ∷ fs) = cond (eqb (tagOf f) 3) (ltb (getD f 5 0) 2) true && kindsFit fs
 
--- the core count: of the first field if its tag is 1; if absent, the count is 4
-abbrev pub coresIn : List (List ℕ) → ℕ
-coresIn [] = defaultCores
-coresIn (f ∷ fs) = cond (eqb (tagOf f) 1) (getD f 3 0) defaultCores
+-- the core count: of the first field if its tag is 1; if absent, the stated default
+abbrev pub coresIn : Default → List (List ℕ) → ℕ
+coresIn d [] = defaultCores d
+coresIn d (f ∷ fs) = cond (eqb (tagOf f) 1) (getD f 3 0) (defaultCores d)
 
 -- the end of the tasks of fields that begin at k: the place of the first piece, or the end of the file
 unfoldable pub tasksEnd : ℕ → List (List ℕ) → ℕ
@@ -157,8 +160,8 @@ abbrev pub recordOf : ℕ → List Task → List Piece → Plan
 recordOf m ts ps = record { cores = m; count = length ts; tasks = filledTo 64 noTask ts; placed = length ps; pieces = filledTo 128 noPiece ps }
 
 -- the record that the fields name
-abbrev pub recordIn : List (List ℕ) → Plan
-recordIn fs = recordOf (coresIn fs) (tasksIn fs) (piecesIn fs)
+abbrev pub recordIn : Default → List (List ℕ) → Plan
+recordIn d fs = recordOf (coresIn d fs) (tasksIn fs) (piecesIn fs)
 
 -- ---- a file
 
@@ -193,9 +196,9 @@ planAnswered Accepted p = record { answer = Accepted; plan = p }
 planAnswered (Refused x) p = record { answer = Refused x; plan = emptyPlan 0 }
 
 -- a table file's answer and record
-unfoldable pub tableSaid : List ℕ → ReadTable
-tableSaid s = tableAnswered (fieldsGood false (fieldsOf s)) (recordIn (fieldsOf s))
+unfoldable pub tableSaid : Default → List ℕ → ReadTable
+tableSaid d s = tableAnswered (fieldsGood false (fieldsOf s)) (recordIn d (fieldsOf s))
 
 -- a plan file's answer and record
-unfoldable pub planSaid : List ℕ → ReadPlan
-planSaid s = planAnswered (andThen (fieldsGood true (fieldsOf s)) (shapeGood (fieldsOf s) (recordIn (fieldsOf s)))) (recordIn (fieldsOf s))
+unfoldable pub planSaid : Default → List ℕ → ReadPlan
+planSaid d s = planAnswered (andThen (fieldsGood true (fieldsOf s)) (shapeGood (fieldsOf s) (recordIn d (fieldsOf s)))) (recordIn d (fieldsOf s))

@@ -13,6 +13,7 @@ use Rattle.plans.specs.Shape.{checkedPlan}
 use Rattle.plans.specs.declared.Plan.{Plan}
 use Rattle.files.specs.Grammar.{defaultCores, refusal, emptyPlan, tableAnswered, planAnswered}
 use Rattle.files.specs.Fields.{fieldAt, refusedField}
+use Rattle.files.specs.declared.Default.{Default}
 use Rattle.files.specs.declared.Field.{Field}
 use Rattle.files.specs.declared.Reader.{Reader}
 use Rattle.files.specs.declared.ReadPlan.{ReadPlan}
@@ -20,9 +21,9 @@ use Rattle.files.specs.declared.ReadTable.{ReadTable}
 
 -- ---- the start
 
--- a table's reader (false) or a plan's (true), with nothing read
-abbrev pub begun : Bool → Reader
-begun o = record { field = fieldAt o 0 0 false; plan = emptyPlan defaultCores }
+-- a table's reader (false) or a plan's (true), with nothing read: until a core count is named there are as many cores as the default says
+abbrev pub begun : Default → Bool → Reader
+begun d o = record { field = fieldAt o 0 0 false; plan = emptyPlan (defaultCores d) }
 
 -- ---- the end
 

@@ -6,7 +6,7 @@ ghost use lib.ListN.{getD, replicate};
 ghost use Rattle.tasks.specs.Below.{padded};
 ghost use Rattle.tasks.specs.Tables.{noTask};
 ghost use Rattle.plans.specs.Pieces.{noPiece};
-ghost use Rattle.files.specs.Grammar.{number2, number4, lengthFor, kindOf, refusal, emptyPlan};
+ghost use Rattle.files.specs.Grammar.{number2, number4, lengthFor, defaultCores, kindOf, refusal, emptyPlan};
 ghost use Rattle.files.specs.Fields.{tag, taskIn, pieceIn, values, verdict, hold, nextField, added, read};
 ghost use Rattle.files.specs.Reading.{ended, begun, tableEnded, tableClosed, planEnded, planClosed};
 ghost use Rattle.files.specs.Files.{tableRead, planRead};
@@ -241,6 +241,12 @@ pub fn feed(reader: Reader, part: &[u8]) -> Reader
 
 // ---- The reader: where it begins, and what the end of a file is answered with.
 
+// How many cores a file is for that does not name its core count. Whoever has a file read states it.
+pub enum Default {
+    Four,
+    Eight,
+}
+
 // What a table file is answered with, and its table, which on a refusal is empty.
 pub struct ReadTable {
     pub answer: Answer,
@@ -331,9 +337,19 @@ fn no_tasks() -> [Task; 64]
     }; 64]
 }
 
+// The core count of a default.
+fn default_cores(default: Default) -> usize
+    ensures { λ r. ⌜ r ≡ defaultCores default ⌝ }
+{
+    match default {
+        Default::Four => 4,
+        Default::Eight => 8,
+    }
+}
+
 // A reader that has read nothing yet, of a table file or, with pieces, of a plan file.
-fn begun(pieces: bool) -> Reader
-    ensures { λ r. ⌜ r ≡ begun pieces ⌝ }
+fn begun(default: Default, pieces: bool) -> Reader
+    ensures { λ r. ⌜ r ≡ begun default pieces ⌝ }
 {
     Reader {
         field: Field {
@@ -345,22 +361,22 @@ fn begun(pieces: bool) -> Reader
             count: 0,
             bytes: [0u8; 15],
         },
-        plan: empty_plan(4),
+        plan: empty_plan(default_cores(default)),
     }
 }
 
-// Begins to read a table file.
-pub fn start_table() -> Reader
-    ensures { λ r. ⌜ r ≡ begun false ⌝ }
+// Begins to read a table file, with this default.
+pub fn start_table(default: Default) -> Reader
+    ensures { λ r. ⌜ r ≡ begun default false ⌝ }
 {
-    begun(false)
+    begun(default, false)
 }
 
-// Begins to read a plan file.
-pub fn start_plan() -> Reader
-    ensures { λ r. ⌜ r ≡ begun true ⌝ }
+// Begins to read a plan file, with this default.
+pub fn start_plan(default: Default) -> Reader
+    ensures { λ r. ⌜ r ≡ begun default true ⌝ }
 {
-    begun(true)
+    begun(default, true)
 }
 
 // What the end of a table file is answered with: 1, 6 or, for a reader with pieces, 2; then the check of the record.
@@ -475,16 +491,16 @@ pub fn close_plan(reader: Reader) -> ReadPlan
 
 // ---- A whole file.
 
-// Reads a table file: any bytes at all.
-pub fn read_table(bytes: &[u8]) -> ReadTable
-    ensures { λ r. ⌜ r ≡ tableRead (now (bytes .entry)) ⌝ }
+// Reads a table file, with this default: any bytes at all.
+pub fn read_table(default: Default, bytes: &[u8]) -> ReadTable
+    ensures { λ r. ⌜ r ≡ tableRead default (now (bytes .entry)) ⌝ }
 {
-    close_table(feed(start_table(), bytes))
+    close_table(feed(start_table(default), bytes))
 }
 
-// Reads a plan file: any bytes at all.
-pub fn read_plan(bytes: &[u8]) -> ReadPlan
-    ensures { λ r. ⌜ r ≡ planRead (now (bytes .entry)) ⌝ }
+// Reads a plan file, with this default: any bytes at all.
+pub fn read_plan(default: Default, bytes: &[u8]) -> ReadPlan
+    ensures { λ r. ⌜ r ≡ planRead default (now (bytes .entry)) ⌝ }
 {
-    close_plan(feed(start_plan(), bytes))
+    close_plan(feed(start_plan(default), bytes))
 }

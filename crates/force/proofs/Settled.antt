@@ -9,9 +9,13 @@ use Rattle.force.specs.InForce.{IsPart, IsInForce}
 use Rattle.force.specs.declared.InForce.{InForce}
 use Rattle.force.specs.declared.InForce.the-variants.{Own, Shipped, Neither}
 use Rattle.force.proofs.which_in_force.Reads as which-in-force
+use Rattle.force.proofs.cores_in_force.Reads as cores-in-force
 
 pub which-in-force-settled : (κ : Lfts 1) → Settles (which-in-force.Post κ)
 which-in-force-settled κ x e r s p q = settled p q
+
+pub cores-in-force-settled : (κ : Lfts 1) → Settles (cores-in-force.Post κ)
+cores-in-force-settled κ x e r s p q = settled p q
 
 -- two parts that a contract allows are one
 pub part-fixed : (r q s : RefT (List ℕ)) (a e : ℕ) → IsPart r s a e → IsPart q s a e → (ptr r .0 ≡ ptr q .0) × ((ptr r .1 ≡ ptr q .1) × (now r ≡ now q))

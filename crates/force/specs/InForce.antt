@@ -9,6 +9,9 @@ use denote.Ref.{RefT, ptr, now}
 use Rattle.tasks.specs.declared.Answer.{Answer}
 use Rattle.tasks.specs.declared.Answer.the-variants.{Accepted, Refused}
 use Rattle.files.specs.Files.{tableRead}
+use Rattle.files.specs.declared.Default.{Default}
+use Rattle.force.specs.declared.CoresInForce.{CoresInForce}
+use Rattle.force.specs.declared.CoresInForce.the-variants.{Cores, NoTable}
 use Rattle.force.specs.declared.InForce.{InForce}
 use Rattle.force.specs.declared.InForce.the-variants.{Own, Shipped, Neither}
 
@@ -19,8 +22,18 @@ choice (Refused x) Accepted = Shipped
 choice (Refused x) (Refused y) = Neither y
 
 -- which slice is in force or, if both are bad, the refusal of the shipped one
-unfoldable pub inForce : List ℕ → List ℕ → InForce
-inForce own shipped = choice (tableRead own .answer) (tableRead shipped .answer)
+unfoldable pub inForce : Default → List ℕ → List ℕ → InForce
+inForce d own shipped = choice (tableRead d own .answer) (tableRead d shipped .answer)
+
+-- the core count of the slice in force, by that of the two
+abbrev pub countIn : InForce → ℕ → ℕ → CoresInForce
+countIn Own m n = Cores m
+countIn Shipped m n = Cores n
+countIn (Neither x) m n = NoTable x
+
+-- the core count of the table in force: the one that it names, otherwise the stated default; if both are bad, the refusal of the shipped one
+unfoldable pub coresInForce : Default → List ℕ → List ℕ → CoresInForce
+coresInForce d own shipped = countIn (inForce d own shipped) (tableRead d own .table .cores) (tableRead d shipped .table .cores)
 
 -- r is the part of s from a to e, itself and no copy: it points at s's byte a
 pub record IsPart (r s : RefT (List ℕ)) (a e : ℕ) : Type 0 where

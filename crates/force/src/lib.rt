@@ -1,6 +1,7 @@
 // The table in force: the machine's own table if it is good, otherwise the shipped one if that is good.
 ghost use mathlib.Core.Path.{_≡_};
-ghost use Rattle.force.specs.InForce.{inForce, TaskFields, IsInForce};
+ghost use Rattle.force.specs.InForce.{inForce, coresInForce, TaskFields, IsInForce};
+use files::Default;
 use files::read_table;
 use tasks::Answer;
 use tasks::Refusal;
@@ -12,20 +13,37 @@ pub enum InForce {
     Neither(Refusal),
 }
 
+// The core count of the table in force or, if both slices are bad, the refusal of the shipped one.
+pub enum CoresInForce {
+    Cores(usize),
+    NoTable(Refusal),
+}
+
 // Which of the two slices is in force or, if both are bad, the refusal of the shipped one.
-pub fn which_in_force<'a>(own: &'a [u8], shipped: &'a [u8]) -> InForce
-    ensures { λ r. ⌜ r ≡ inForce (now (own .entry)) (now (shipped .entry)) ⌝ }
+pub fn which_in_force<'a>(default: Default, own: &'a [u8], shipped: &'a [u8]) -> InForce
+    ensures { λ r. ⌜ r ≡ inForce default (now (own .entry)) (now (shipped .entry)) ⌝ }
 {
-    let own_read = read_table(own);
+    let own_read = read_table(default, own);
     let own_answer = own_read.answer;
     if let Answer::Accepted = own_answer {
         return InForce::Own;
     }
-    let shipped_read = read_table(shipped);
+    let shipped_read = read_table(default, shipped);
     let shipped_answer = shipped_read.answer;
     match shipped_answer {
         Answer::Accepted => InForce::Shipped,
         Answer::Refused(refusal) => InForce::Neither(refusal),
+    }
+}
+
+// How many cores the table in force is for: the count that it names, otherwise the default. The part that `table_in_force` gives does not hold it.
+pub fn cores_in_force<'a>(default: Default, own: &'a [u8], shipped: &'a [u8]) -> CoresInForce
+    ensures { λ r. ⌜ r ≡ coresInForce default (now (own .entry)) (now (shipped .entry)) ⌝ }
+{
+    match which_in_force(default, own, shipped) {
+        InForce::Own => CoresInForce::Cores(read_table(default, own).table.cores),
+        InForce::Shipped => CoresInForce::Cores(read_table(default, shipped).table.cores),
+        InForce::Neither(refusal) => CoresInForce::NoTable(refusal),
     }
 }
 
@@ -43,10 +61,10 @@ fn task_fields<'a>(file: &'a [u8]) -> &'a [u8]
 }
 
 // The part of the slice in force that holds the task fields, both slices lent for as long as the part.
-fn part_in_force<'r>(own: &'r [u8], shipped: &'r [u8]) -> &'r [u8]
-    ensures { λ r. ⌜ IsInForce (inForce (now (own .entry)) (now (shipped .entry))) r (own .entry) (shipped .entry) ⌝ }
+fn part_in_force<'r>(default: Default, own: &'r [u8], shipped: &'r [u8]) -> &'r [u8]
+    ensures { λ r. ⌜ IsInForce (inForce default (now (own .entry)) (now (shipped .entry))) r (own .entry) (shipped .entry) ⌝ }
 {
-    match which_in_force(own, shipped) {
+    match which_in_force(default, own, shipped) {
         InForce::Own => task_fields(own),
         InForce::Shipped => task_fields(shipped),
         InForce::Neither(_) => &shipped[0..0],
@@ -54,8 +72,12 @@ fn part_in_force<'r>(own: &'r [u8], shipped: &'r [u8]) -> &'r [u8]
 }
 
 // The table in force: the part of the machine's own or of the shipped slice that holds the task fields, itself and no copy; empty if both are bad.
-pub fn table_in_force<'a: 'r, 'b: 'r, 'r>(own: &'a [u8], shipped: &'b [u8]) -> &'r [u8]
-    ensures { λ r. ⌜ IsInForce (inForce (now (own .entry)) (now (shipped .entry))) r (own .entry) (shipped .entry) ⌝ }
+pub fn table_in_force<'a: 'r, 'b: 'r, 'r>(
+    default: Default,
+    own: &'a [u8],
+    shipped: &'b [u8],
+) -> &'r [u8]
+    ensures { λ r. ⌜ IsInForce (inForce default (now (own .entry)) (now (shipped .entry))) r (own .entry) (shipped .entry) ⌝ }
 {
-    part_in_force(own, shipped)
+    part_in_force(default, own, shipped)
 }

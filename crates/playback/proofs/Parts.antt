@@ -23,6 +23,7 @@ use Rattle.texts.specs.Telling.{refusalText}
 use Rattle.tasks.specs.Places.{placeAt, further}
 use Rattle.tasks.proofs.Places.{further-is}
 use Rattle.files.specs.Files.{planRead}
+use Rattle.files.specs.declared.Default.{Default}
 use Rattle.playback.specs.Requests.{requestSize, requestAnswer}
 use Rattle.playback.specs.Replay.{closed, ticksText, told, replayText, Standing, next, playedIn, beginning, playedFrom, standing, playedOn, Parts, reads, plays, closes}
 use Rattle.playback.specs.Players.{held, start, atHand, lastAnswer}
@@ -182,11 +183,11 @@ parts-whole {p = p} (plays w room more text rest) k h far =
 parts-whole {p = p} (closes w more at never) k h far = sym (ends p w more k h at never)
 
 -- a whole input with an accepted plan file prints the ticks from a started player on
-pub replay-begins : (high low : ℕ) (file ticks : List ℕ) → length file ≡ high * 256 + low → planRead file .answer ≡ Accepted
-    → replayText (high ∷ low ∷ (file ++ ticks))
-    ≡ ticksText (length (high ∷ low ∷ (file ++ ticks))) (planRead file .plan) (start (2 + length file) .place) (start (2 + length file) .state) (atHand (start (2 + length file)) ++ ticks)
+pub replay-begins : (d : Default) (high low : ℕ) (file ticks : List ℕ) → length file ≡ high * 256 + low → planRead d file .answer ≡ Accepted
+    → replayText d (high ∷ low ∷ (file ++ ticks))
+    ≡ ticksText (length (high ∷ low ∷ (file ++ ticks))) (planRead d file .plan) (start (2 + length file) .place) (start (2 + length file) .state) (atHand (start (2 + length file)) ++ ticks)
 unfolding replayText
-replay-begins high low file ticks e ok =
+replay-begins d high low file ticks e ok =
     let bs : List ℕ = high ∷ low ∷ (file ++ ticks) in
     let long : 2 + told bs ≤ length bs = omega (arith, e, length-append file ticks) in
     let body : take (told bs) (drop 2 bs) ≡ file = take-at file ticks (told bs) e in
@@ -194,18 +195,18 @@ replay-begins high low file ticks e ok =
     rw (le-ltb (length bs) (2 + told bs) long, body, ok, rest, e)
 
 -- the parts that are printed from a started player on, put together, are what is printed for the whole input
-pub replay-whole : (high low : ℕ) (file ticks text : List ℕ) → length file ≡ high * 256 + low → planRead file .answer ≡ Accepted → 2 + (length file + length ticks) ≤ 18446744073709551615
-    → Parts (planRead file .plan) (start (2 + length file)) ticks text → text ≡ replayText (high ∷ low ∷ (file ++ ticks))
-replay-whole high low file ticks text e ok far parts = parts-whole parts (length (high ∷ low ∷ (file ++ ticks))) (omega (arith, length-append file ticks)) (omega arith) ∙ sym (replay-begins high low file ticks e ok)
+pub replay-whole : (d : Default) (high low : ℕ) (file ticks text : List ℕ) → length file ≡ high * 256 + low → planRead d file .answer ≡ Accepted → 2 + (length file + length ticks) ≤ 18446744073709551615
+    → Parts (planRead d file .plan) (start (2 + length file)) ticks text → text ≡ replayText d (high ∷ low ∷ (file ++ ticks))
+replay-whole d high low file ticks text e ok far parts = parts-whole parts (length (high ∷ low ∷ (file ++ ticks))) (omega (arith, length-append file ticks)) (omega arith) ∙ sym (replay-begins d high low file ticks e ok)
 
 -- an input that ends before its plan file is whole, and one whose plan file is refused, print one line
-pub replay-cut : (bs : List ℕ) → length bs < 2 + told bs → replayText bs ≡ refusalText (CutShort (placeAt 0))
+pub replay-cut : (d : Default) (bs : List ℕ) → length bs < 2 + told bs → replayText d bs ≡ refusalText (CutShort (placeAt 0))
 unfolding replayText
-replay-cut bs h = rw (lt-ltb (length bs) (2 + told bs) h)
+replay-cut d bs h = rw (lt-ltb (length bs) (2 + told bs) h)
 
-pub replay-refused : (high low : ℕ) (file ticks : List ℕ) (x : Refusal) → length file ≡ high * 256 + low → planRead file .answer ≡ Refused x → replayText (high ∷ low ∷ (file ++ ticks)) ≡ refusalText x
+pub replay-refused : (d : Default) (high low : ℕ) (file ticks : List ℕ) (x : Refusal) → length file ≡ high * 256 + low → planRead d file .answer ≡ Refused x → replayText d (high ∷ low ∷ (file ++ ticks)) ≡ refusalText x
 unfolding replayText
-replay-refused high low file ticks x e bad =
+replay-refused d high low file ticks x e bad =
     let bs : List ℕ = high ∷ low ∷ (file ++ ticks) in
     let long : 2 + told bs ≤ length bs = omega (arith, e, length-append file ticks) in
     let body : take (told bs) (drop 2 bs) ≡ file = take-at file ticks (told bs) e in

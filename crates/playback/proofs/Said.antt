@@ -6,6 +6,7 @@ use native.Mathlib.Omega.{arith}
 use lib.ListN.{length, getD, List·getD-eq-default}
 use borrow.Author.Tests.{lt-leb, lt-ltb, le-ltb}
 use Rattle.plans.specs.declared.Plan.{Plan}
+use Rattle.files.specs.declared.Default.{Default}
 use Rattle.dispatch.specs.declared.State.{State}
 use Rattle.texts.specs.Telling.{toldText, refusalText}
 use Rattle.texts.specs.Text.{ascii, digits, decimal}
@@ -14,9 +15,9 @@ use Rattle.playback.specs.Replay.{ticksText, replayText}
 use Rattle.playback.specs.Requests.{requestSize, requestAnswer}
 
 -- the input ends before the plan file is whole, or even before its length is told
-pub cut-before-plan : (bs : List ℕ) → length bs < 2 + (getD bs 0 0 * 256 + getD bs 1 0) → replayText bs ≡ ascii "refused 1 at 0\n"
+pub cut-before-plan : (d : Default) (bs : List ℕ) → length bs < 2 + (getD bs 0 0 * 256 + getD bs 1 0) → replayText d bs ≡ ascii "refused 1 at 0\n"
 unfolding replayText refusalText toldText ascii digits
-cut-before-plan bs h = rw (lt-ltb (length bs) (2 + (getD bs 0 0 * 256 + getD bs 1 0)) h)
+cut-before-plan d bs h = rw (lt-ltb (length bs) (2 + (getD bs 0 0 * 256 + getD bs 1 0)) h)
 
 module _ (k : ℕ) (p : Plan) (n : ℕ) (s : State) where
   -- nothing more is asked: the totals

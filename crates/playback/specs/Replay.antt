@@ -13,6 +13,7 @@ use Rattle.tasks.specs.declared.Refusal.the-variants.{CutShort}
 use Rattle.plans.specs.declared.Plan.{Plan}
 use Rattle.tasks.specs.Places.{placeAt, further}
 use Rattle.files.specs.Files.{planRead}
+use Rattle.files.specs.declared.Default.{Default}
 use Rattle.files.specs.declared.ReadPlan.{ReadPlan}
 use Rattle.dispatch.specs.States.{freshState}
 use Rattle.dispatch.specs.Tick.{tick}
@@ -52,11 +53,11 @@ told bs = getD bs 0 0 * 256 + getD bs 1 0
 abbrev pub opened : ReadPlan → List ℕ → List ℕ
 opened r bs = answerText (r .answer) (ticksText (length bs) (r .plan) (2 + told bs) freshState (drop (2 + told bs) bs))
 
--- what is printed for an input: 1 at 0 if it ends before the plan file is whole, the plan file's refusal, or its ticks from a fresh state
-unfoldable pub replayText : List ℕ → List ℕ
-replayText bs =
+-- what is printed for an input, with the stated default: 1 at 0 if it ends before the plan file is whole, the plan file's refusal, or its ticks from a fresh state
+unfoldable pub replayText : Default → List ℕ → List ℕ
+replayText d bs =
     cond (ltb (length bs) (2 + told bs)) (refusalText (CutShort (placeAt 0)))
-    (opened (planRead (take (told bs) (drop 2 bs))) bs)
+    (opened (planRead d (take (told bs) (drop 2 bs))) bs)
 
 -- ---- the part of the input that is at hand
 

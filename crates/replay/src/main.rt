@@ -1,6 +1,7 @@
 // Replays what a unit did: standard input is the length of a plan file in two bytes, high first, that plan file, and then ticks to the end.
 ghost use Prim.Native.Nat.{_≤_, _<_};
 ghost use lib.ListN.{length};
+use files::Default;
 use libc::STDIN_FILENO;
 use plans::Plan;
 use playback::Player;
@@ -87,7 +88,7 @@ fn main() {
         console::print_refusal(Refusal::CutShort(Place(0)));
         return;
     }
-    let read = console::plan_in(&file, length);
+    let read = console::plan_in(Default::Eight, &file, length);
     let answer = read.answer;
     match answer {
         Answer::Accepted => replay(read.plan, 2 + length),

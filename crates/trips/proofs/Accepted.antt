@@ -23,8 +23,9 @@ use Rattle.plans.specs.declared.Plan.{Plan}
 use Rattle.writing.specs.Fields.{coreField, taskField, pieceField}
 use Rattle.tasks.specs.Places.{further}
 use Rattle.tasks.proofs.Places.{further-is}
-use Rattle.files.specs.Grammar.{lengthFor}
+use Rattle.files.specs.Grammar.{lengthFor, defaultCores}
 use Rattle.files.specs.Fields.{tag, taskIn, pieceIn, verdict, hold, fieldAt, pieceTaken, nextField, withCores, withTask, withPiece, added, settled, step, read}
+use Rattle.files.specs.declared.Default.{Default}
 use Rattle.files.specs.declared.Field.{Field}
 use Rattle.files.specs.declared.Reader.{Reader}
 use Rattle.files.proofs.Fields.{reader, length-most, next-other, cores-added, task-added, read-refused, hold-is, step-good, settled-bad, good-room}
@@ -37,9 +38,9 @@ unfoldable pub told : Bool → Plan → List ℕ
 told named p = cond named (coreField (p .cores)) [] ++ (row (p .count) (λ i. taskField (taskOf p i)) ++ row (p .placed) (λ j. pieceField (pieceOf p j)))
 
 -- what was read of a file s, its next field being f, if no piece is against the shape by itself
-pub record Content (o named : Bool) (s : List ℕ) (f : Field) (p : Plan) : Type 0 where
+pub record Content (d : Default) (o named : Bool) (s : List ℕ) (f : Field) (p : Plan) : Type 0 where
   pub text : s ≡ told named p ++ take (f .count) (f .bytes)
-  pub default : named ≡ false → p .cores ≡ 4
+  pub default : named ≡ false → p .cores ≡ defaultCores d
   pub tasks : length (p .tasks) ≡ 64
   pub placed : p .placed ≤ 128
   pub pieces : length (p .pieces) ≡ 128
@@ -48,7 +49,7 @@ pub record Content (o named : Bool) (s : List ℕ) (f : Field) (p : Plan) : Type
   pub order : f .place ≤ f .end → p .placed ≡ 0
 
 -- a file s was read without a refusal, and its next field is f
-pub record Held (o : Bool) (s : List ℕ) (f : Field) (p : Plan) : Type 0 where
+pub record Held (d : Default) (o : Bool) (s : List ℕ) (f : Field) (p : Plan) : Type 0 where
   pub kind : f .pieces ≡ o
   pub bad : f .bad ≡ 0
   pub whole : f .place + f .count ≡ length s
@@ -57,11 +58,11 @@ pub record Held (o : Bool) (s : List ℕ) (f : Field) (p : Plan) : Type 0 where
   pub small : (i : ℕ) → getD (f .bytes) i 0 < 256
   pub plain : o ≡ false → f .misshapen ≡ false
   pub named : Bool
-  pub good : f .misshapen ≡ false → Content o named s f p
+  pub good : f .misshapen ≡ false → Content d o named s f p
 
 -- one byte more of the field
-hold-held : (o : Bool) (s : List ℕ) (f : Field) (p : Plan) (b : ℕ) → Held o s f p → f .count < 15 → b < 256 → Held o (s ++ (b ∷ [])) (hold f b) p
-hold-held o s f p b h l k = rw (hold-is f b l) (record {
+hold-held : (d : Default) (o : Bool) (s : List ℕ) (f : Field) (p : Plan) (b : ℕ) → Held d o s f p → f .count < 15 → b < 256 → Held d o (s ++ (b ∷ [])) (hold f b) p
+hold-held d o s f p b h l k = rw (hold-is f b l) (record {
   kind = h .kind;
   bad = h .bad;
   whole = omega (arith, h .whole, length-append s (b ∷ []));
@@ -70,7 +71,7 @@ hold-held o s f p b h l k = rw (hold-is f b l) (record {
   small = λ i. byte i (ℕ-discrete i (f .count));
   plain = h .plain;
   named = h .named;
-  good = λ m. let c : Content o (h .named) s f p = h .good m in record {
+  good = λ m. let c : Content d o (h .named) s f p = h .good m in record {
     text = ap (λ (x : List ℕ). x ++ (b ∷ [])) (c .text) ∙ append-assoc (told (h .named) p) (take (f .count) (f .bytes)) (b ∷ []) ∙ ap (λ (x : List ℕ). told (h .named) p ++ x) (sym (rw add-one (take-suc-set (f .bytes) (f .count) b (omega (arith, h .size)))));
     default = c .default;
     tasks = c .tasks;
@@ -112,22 +113,22 @@ told-piece named p z h = rw (row-set pieceField (p .pieces) (p .placed) z noPiec
 pub zero-byte : (i : ℕ) → getD (replicate 15 0) i 0 < 256
 zero-byte i = rw (replicate-at {A = ℕ} 15 i 0) (omega arith)
 
-module _ (o : Bool) (s : List ℕ) (g : Field) (p : Plan) (h : Held o s g p) (d : Found g) (e : g .count ≡ 3 + lengthFor (tag g)) (most : length s ≤ 18446744073709551615) where
+module _ (d : Default) (o : Bool) (s : List ℕ) (g : Field) (p : Plan) (h : Held d o s g p) (found : Found g) (e : g .count ≡ 3 + lengthFor (tag g)) (most : length s ≤ 18446744073709551615) where
   next-place : further (g .place) (g .count) ≡ length s
   next-place = further-is _ _ (omega (arith, h .whole)) ∙ h .whole
 
   -- the next field stands where what was read ends
-  next-held : (end : ℕ) (w named : Bool) (q : Plan) → end ≤ length s → (o ≡ false → w ≡ false) → (w ≡ false → Content o named s (fieldAt (g .pieces) (length s) end w) q) → Held o s (fieldAt (g .pieces) (length s) end w) q
+  next-held : (end : ℕ) (w named : Bool) (q : Plan) → end ≤ length s → (o ≡ false → w ≡ false) → (w ≡ false → Content d o named s (fieldAt (g .pieces) (length s) end w) q) → Held d o s (fieldAt (g .pieces) (length s) end w) q
   next-held end w named q l m c = record { kind = h .kind; bad = refl; whole = omega arith; ends = l; size = refl; small = zero-byte; plain = m; named = named; good = c }
 
-  taken-cores : tag g ≡ 1 → g .place ≡ 0 → Held o s (fieldAt (g .pieces) (length s) (length s) (g .misshapen)) (withCores p (getD (g .bytes) 3 0))
+  taken-cores : tag g ≡ 1 → g .place ≡ 0 → Held d o s (fieldAt (g .pieces) (length s) (length s) (g .misshapen)) (withCores p (getD (g .bytes) 3 0))
   taken-cores t z = next-held (length s) (g .misshapen) true _ (omega arith) (h .plain) content
     where
-      content : g .misshapen ≡ false → Content o true s (fieldAt (g .pieces) (length s) (length s) (g .misshapen)) (withCores p (getD (g .bytes) 3 0))
+      content : g .misshapen ≡ false → Content d o true s (fieldAt (g .pieces) (length s) (length s) (g .misshapen)) (withCores p (getD (g .bytes) 3 0))
       content m =
-          let c : Content o (h .named) s g p = h .good m in
+          let c : Content d o (h .named) s g p = h .good m in
           let four : g .count ≡ 4 = e ∙ ap (λ (n : ℕ). 3 + lengthFor n) t in
-          let field : take (g .count) (g .bytes) ≡ coreField (getD (g .bytes) 3 0) = ap (λ (k : ℕ). take k (g .bytes)) four ∙ core-text g (h .size) (h .small) t (d .size) in
+          let field : take (g .count) (g .bytes) ≡ coreField (getD (g .bytes) 3 0) = ap (λ (k : ℕ). take k (g .bytes)) four ∙ core-text g (h .size) (h .small) t (found .size) in
           let empty : told (h .named) p ≡ [] = no-length _ (omega (arith, h .whole, h .size, ap length (c .text), length-append (told (h .named) p) (take (g .count) (g .bytes)), length-take-le (g .count) (g .bytes) (omega (arith, h .size)))) in
           record {
             text = c .text ∙ rw (empty, field) (sym (append-nil _ ∙ told-cores (h .named) p (getD (g .bytes) 3 0) empty));
@@ -140,14 +141,14 @@ module _ (o : Bool) (s : List ℕ) (g : Field) (p : Plan) (h : Held o s g p) (d 
             order = λ l. c .order (omega arith);
           }
 
-  taken-task : tag g ≡ 2 → g .place ≤ g .end → p .count < 64 → Held o s (fieldAt (g .pieces) (length s) (length s) (g .misshapen)) (withTask p (taskIn g))
+  taken-task : tag g ≡ 2 → g .place ≤ g .end → p .count < 64 → Held d o s (fieldAt (g .pieces) (length s) (length s) (g .misshapen)) (withTask p (taskIn g))
   taken-task t z room = next-held (length s) (g .misshapen) (h .named) _ (omega arith) (h .plain) content
     where
-      content : g .misshapen ≡ false → Content o (h .named) s (fieldAt (g .pieces) (length s) (length s) (g .misshapen)) (withTask p (taskIn g))
+      content : g .misshapen ≡ false → Content d o (h .named) s (fieldAt (g .pieces) (length s) (length s) (g .misshapen)) (withTask p (taskIn g))
       content m =
-          let c : Content o (h .named) s g p = h .good m in
+          let c : Content d o (h .named) s g p = h .good m in
           let whole : g .count ≡ 15 = e ∙ ap (λ (n : ℕ). 3 + lengthFor n) t in
-          let field : take (g .count) (g .bytes) ≡ taskField (taskIn g) = ap (λ (k : ℕ). take k (g .bytes)) whole ∙ task-text g (h .size) (h .small) t (d .size) in
+          let field : take (g .count) (g .bytes) ≡ taskField (taskIn g) = ap (λ (k : ℕ). take k (g .bytes)) whole ∙ task-text g (h .size) (h .small) t (found .size) in
           record {
             text = c .text ∙ rw field (sym (append-nil _ ∙ told-task (h .named) p (taskIn g) (c .order z) (omega (arith, c .tasks))));
             default = c .default;
@@ -159,15 +160,15 @@ module _ (o : Bool) (s : List ℕ) (g : Field) (p : Plan) (h : Held o s g p) (d 
             order = λ l. c .order z;
           }
 
-  taken-piece : tag g ≡ 3 → g .pieces ≡ true → pieceTaken g (p .placed) ≡ true → Held o s (fieldAt (g .pieces) (length s) (g .end) (g .misshapen)) (withPiece p (pieceIn g))
+  taken-piece : tag g ≡ 3 → g .pieces ≡ true → pieceTaken g (p .placed) ≡ true → Held d o s (fieldAt (g .pieces) (length s) (g .end) (g .misshapen)) (withPiece p (pieceIn g))
   taken-piece t z k = next-held (g .end) (g .misshapen) (h .named) _ (omega (arith, h .ends, h .whole)) (h .plain) content
     where
-      content : g .misshapen ≡ false → Content o (h .named) s (fieldAt (g .pieces) (length s) (g .end) (g .misshapen)) (withPiece p (pieceIn g))
+      content : g .misshapen ≡ false → Content d o (h .named) s (fieldAt (g .pieces) (length s) (g .end) (g .misshapen)) (withPiece p (pieceIn g))
       content m =
-          let c : Content o (h .named) s g p = h .good m in
+          let c : Content d o (h .named) s g p = h .good m in
           let room : p .placed < 128 = piece-room g (p .placed) k in
           let whole : g .count ≡ 10 = e ∙ ap (λ (n : ℕ). 3 + lengthFor n) t in
-          let field : take (g .count) (g .bytes) ≡ pieceField (pieceIn g) = ap (λ (i : ℕ). take i (g .bytes)) whole ∙ piece-text g (h .size) (h .small) t (d .size) (piece-kind g (p .placed) k) in
+          let field : take (g .count) (g .bytes) ≡ pieceField (pieceIn g) = ap (λ (i : ℕ). take i (g .bytes)) whole ∙ piece-text g (h .size) (h .small) t (found .size) (piece-kind g (p .placed) k) in
           record {
             text = c .text ∙ rw field (sym (append-nil _ ∙ told-piece (h .named) p (pieceIn g) (omega (arith, c .pieces))));
             default = c .default;
@@ -190,14 +191,14 @@ module _ (o : Bool) (s : List ℕ) (g : Field) (p : Plan) (h : Held o s g p) (d 
   unfolding added
   piece-added b q k = rw (eq-eqb (tag g) 3 q, k)
 
-  taken-held : (tag g ≡ 2 → p .count < 64) → Held o s (nextField g (p .placed)) (added g p)
-  taken-held room = go (tag-cases g (d .fits))
+  taken-held : (tag g ≡ 2 → p .count < 64) → Held d o s (nextField g (p .placed)) (added g p)
+  taken-held room = go (tag-cases g (found .fits))
     where
-      of-piece : tag g ≡ 3 → g .pieces ≡ true → (b : Bool) → pieceTaken g (p .placed) ≡ b → Held o s (fieldAt (g .pieces) (length s) (g .end) (cond b (g .misshapen) true)) (cond b (withPiece p (pieceIn g)) p)
+      of-piece : tag g ≡ 3 → g .pieces ≡ true → (b : Bool) → pieceTaken g (p .placed) ≡ b → Held d o s (fieldAt (g .pieces) (length s) (g .end) (cond b (g .misshapen) true)) (cond b (withPiece p (pieceIn g)) p)
       of-piece t z true k = taken-piece t z k
       of-piece t z false k = next-held (g .end) true (h .named) p (omega (arith, h .ends, h .whole)) (λ q. clash z (h .kind ∙ q)) (λ q. clash refl q)
 
-      go : ((tag g ≡ 1) × (g .place ≡ 0)) ⊎ (((tag g ≡ 2) × (g .place ≤ g .end)) ⊎ ((tag g ≡ 3) × (g .pieces ≡ true))) → Held o s (nextField g (p .placed)) (added g p)
+      go : ((tag g ≡ 1) × (g .place ≡ 0)) ⊎ (((tag g ≡ 2) × (g .place ≤ g .end)) ⊎ ((tag g ≡ 3) × (g .pieces ≡ true))) → Held d o s (nextField g (p .placed)) (added g p)
       go (inl t) = rw (plain-next (p .placed) (λ q. omega arith), ← cores-added g p (λ q. omega arith) (t .0)) (taken-cores (t .0) (t .1))
       go (inr (inl t)) = rw (plain-next (p .placed) (λ q. omega arith), ← task-added g p (λ q. omega arith) (λ q. omega arith)) (taken-task (t .0) (t .1) (room (t .0)))
       go (inr (inr t)) = rw (piece-next (p .placed) _ (t .0) refl, piece-added _ (t .0) refl) (of-piece (t .0) (t .1) _ refl)
@@ -221,35 +222,35 @@ next-count f n = go (eqb (tag f) 3)
     go false = refl
 
 -- one byte that is read without a refusal
-step-held : (o : Bool) (s : List ℕ) (f : Field) (p : Plan) (b : ℕ) → Held o s f p → f .count < 3 + lengthFor (tag f) → b < 256 → length s + 1 ≤ 18446744073709551615
-    → step (reader f p) b .field .bad ≡ 0 → Held o (s ++ (b ∷ [])) (step (reader f p) b .field) (step (reader f p) b .plan) × (step (reader f p) b .field .count < 3 + lengthFor (tag (step (reader f p) b .field)))
-step-held o s f p b h l small most a = rw (step-good f p b (h .bad)) (go (ℕ-discrete (verdict (hold f b) (p .count)) 0) (ℕ-discrete (verdict (hold f b) (p .count)) 1) (rw (step-good f p b (h .bad)) at a))
+step-held : (d : Default) (o : Bool) (s : List ℕ) (f : Field) (p : Plan) (b : ℕ) → Held d o s f p → f .count < 3 + lengthFor (tag f) → b < 256 → length s + 1 ≤ 18446744073709551615
+    → step (reader f p) b .field .bad ≡ 0 → Held d o (s ++ (b ∷ [])) (step (reader f p) b .field) (step (reader f p) b .plan) × (step (reader f p) b .field .count < 3 + lengthFor (tag (step (reader f p) b .field)))
+step-held d o s f p b h l small most a = rw (step-good f p b (h .bad)) (go (ℕ-discrete (verdict (hold f b) (p .count)) 0) (ℕ-discrete (verdict (hold f b) (p .count)) 1) (rw (step-good f p b (h .bad)) at a))
   where
-    held : Held o (s ++ (b ∷ [])) (hold f b) p
-    held = hold-held o s f p b h (omega (arith, length-most (tag f))) small
+    held : Held d o (s ++ (b ∷ [])) (hold f b) p
+    held = hold-held d o s f p b h (omega (arith, length-most (tag f))) small
 
     go : Dec (verdict (hold f b) (p .count) ≡ 0) → Dec (verdict (hold f b) (p .count) ≡ 1) → settled (verdict (hold f b) (p .count)) (hold f b) p .field .bad ≡ 0
-        → Held o (s ++ (b ∷ [])) (settled (verdict (hold f b) (p .count)) (hold f b) p .field) (settled (verdict (hold f b) (p .count)) (hold f b) p .plan)
+        → Held d o (s ++ (b ∷ [])) (settled (verdict (hold f b) (p .count)) (hold f b) p .field) (settled (verdict (hold f b) (p .count)) (hold f b) p .plan)
         × (settled (verdict (hold f b) (p .count)) (hold f b) p .field .count < 3 + lengthFor (tag (settled (verdict (hold f b) (p .count)) (hold f b) p .field)))
     go (yes e) w q =
-        let d : Found (hold f b) = good-found (hold f b) (p .count) e in
-        let whole : hold f b .count ≡ 3 + lengthFor (tag (hold f b)) = omega (arith, hold-short f b l, d .whole) in
-        rw e (taken-held o (s ++ (b ∷ [])) (hold f b) p held d whole (omega (arith, length-append s (b ∷ []))) (λ t. good-room (hold f b) (p .count) e (λ r. omega arith) (λ r. omega arith)), omega (arith, next-count (hold f b) (p .placed)))
+        let found : Found (hold f b) = good-found (hold f b) (p .count) e in
+        let whole : hold f b .count ≡ 3 + lengthFor (tag (hold f b)) = omega (arith, hold-short f b l, found .whole) in
+        rw e (taken-held d o (s ++ (b ∷ [])) (hold f b) p held found whole (omega (arith, length-append s (b ∷ []))) (λ t. good-room (hold f b) (p .count) e (λ r. omega arith) (λ r. omega arith)), omega (arith, next-count (hold f b) (p .placed)))
     go (no z) (yes e) q = rw e (held, waits-short (hold f b) (p .count) e)
     go (no z) (no w) q = absurd (z (sym (ap (λ (r : Reader). r .field .bad) (settled-bad (verdict (hold f b) (p .count)) (hold f b) p z w)) ∙ q))
 
 -- a file that is read without a refusal
-pub read-held : (o : Bool) (bs s : List ℕ) (f : Field) (p : Plan) → Held o s f p → f .count < 3 + lengthFor (tag f) → ((i : ℕ) → getD bs i 0 < 256) → length s + length bs ≤ 18446744073709551615
-    → read (reader f p) bs .field .bad ≡ 0 → Held o (s ++ bs) (read (reader f p) bs .field) (read (reader f p) bs .plan)
+pub read-held : (d : Default) (o : Bool) (bs s : List ℕ) (f : Field) (p : Plan) → Held d o s f p → f .count < 3 + lengthFor (tag f) → ((i : ℕ) → getD bs i 0 < 256) → length s + length bs ≤ 18446744073709551615
+    → read (reader f p) bs .field .bad ≡ 0 → Held d o (s ++ bs) (read (reader f p) bs .field) (read (reader f p) bs .plan)
 unfolding read
-read-held o [] s f p h l small most a = rw append-nil h
-read-held o (b ∷ bs) s f p h l small most a = go (ℕ-discrete (step (reader f p) b .field .bad) 0) (read-held o bs (s ++ (b ∷ [])))
+read-held d o [] s f p h l small most a = rw append-nil h
+read-held d o (b ∷ bs) s f p h l small most a = go (ℕ-discrete (step (reader f p) b .field .bad) 0) (read-held d o bs (s ++ (b ∷ [])))
   where
     go : Dec (step (reader f p) b .field .bad ≡ 0)
-        → ((g : Field) (q : Plan) → Held o (s ++ (b ∷ [])) g q → g .count < 3 + lengthFor (tag g) → ((i : ℕ) → getD bs i 0 < 256) → length (s ++ (b ∷ [])) + length bs ≤ 18446744073709551615
-        → read (reader g q) bs .field .bad ≡ 0 → Held o ((s ++ (b ∷ [])) ++ bs) (read (reader g q) bs .field) (read (reader g q) bs .plan))
-        → Held o (s ++ (b ∷ bs)) (read (step (reader f p) b) bs .field) (read (step (reader f p) b) bs .plan)
+        → ((g : Field) (q : Plan) → Held d o (s ++ (b ∷ [])) g q → g .count < 3 + lengthFor (tag g) → ((i : ℕ) → getD bs i 0 < 256) → length (s ++ (b ∷ [])) + length bs ≤ 18446744073709551615
+        → read (reader g q) bs .field .bad ≡ 0 → Held d o ((s ++ (b ∷ [])) ++ bs) (read (reader g q) bs .field) (read (reader g q) bs .plan))
+        → Held d o (s ++ (b ∷ bs)) (read (step (reader f p) b) bs .field) (read (step (reader f p) b) bs .plan)
     go (no e) ih = absurd (e (sym (ap (λ (r : Reader). r .field .bad) (read-refused (step (reader f p) b .field) (step (reader f p) b .plan) bs e)) ∙ a))
     go (yes e) ih =
-        let n : Held o (s ++ (b ∷ [])) (step (reader f p) b .field) (step (reader f p) b .plan) × (step (reader f p) b .field .count < 3 + lengthFor (tag (step (reader f p) b .field))) = step-held o s f p b h l (small 0) (omega arith) e in
+        let n : Held d o (s ++ (b ∷ [])) (step (reader f p) b .field) (step (reader f p) b .plan) × (step (reader f p) b .field .count < 3 + lengthFor (tag (step (reader f p) b .field))) = step-held d o s f p b h l (small 0) (omega arith) e in
         rw append-assoc at (ih (step (reader f p) b .field) (step (reader f p) b .plan) (n .0) (n .1) (λ i. small (suc i)) (omega (arith, length-append s (b ∷ []))) a)

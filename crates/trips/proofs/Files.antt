@@ -23,6 +23,7 @@ use Rattle.files.specs.Fields.{fieldAt, refusedField, read}
 use Rattle.files.specs.Grammar.{defaultCores, emptyPlan, refusal}
 use Rattle.files.specs.Reading.{begun, movedTo, ended, fieldsAnswer, endedAfter, tableEnded, planEnded, cleanPlan, tableClosed, planClosed}
 use Rattle.files.specs.Files.{tableRead, planRead}
+use Rattle.files.specs.declared.Default.{Default}
 use Rattle.files.specs.declared.Field.{Field}
 use Rattle.files.proofs.Clean.{clean-plan-is}
 use Rattle.files.proofs.HandMade.{table-passed, plan-passed}
@@ -35,9 +36,9 @@ pub record Slice (s : List ℕ) : Type 0 where
   pub small : (i : ℕ) → getD s i 0 < 256
   pub most : length s ≤ 18446744073709551615
 
-begun-held : (o : Bool) → Held o [] (fieldAt o 0 0 false) (emptyPlan defaultCores)
+begun-held : (d : Default) (o : Bool) → Held d o [] (fieldAt o 0 0 false) (emptyPlan (defaultCores d))
 unfolding told row
-begun-held o = record {
+begun-held d o = record {
   kind = refl;
   bad = refl;
   whole = refl;
@@ -103,10 +104,10 @@ told-split : (p : Plan) → told true p ≡ coreField (p .cores) ++ told false p
 unfolding told
 told-split p = refl
 
--- a file that names its core count is told again byte for byte, any other with the count of 4 before it
-told-again : (s : List ℕ) (named : Bool) (p : Plan) → 1 ≤ p .count → s ≡ told named p → (named ≡ false → p .cores ≡ 4) → told true p ≡ cond (eqb (getD s 0 0) 1) s (coreField defaultCores ++ s)
-told-again s true p h e d = rw (e, told-named p)
-told-again s false p h e d = rw (e, told-other p h, told-split p, d refl)
+-- a file that names its core count is told again byte for byte, any other with the default's count before it
+told-again : (d : Default) (s : List ℕ) (named : Bool) (p : Plan) → 1 ≤ p .count → s ≡ told named p → (named ≡ false → p .cores ≡ defaultCores d) → told true p ≡ cond (eqb (getD s 0 0) 1) s (coreField (defaultCores d) ++ s)
+told-again d s true p h e k = rw (e, told-named p)
+told-again d s false p h e k = rw (e, told-other p h, told-split p, k refl)
 
 plan-told : (p : Plan) → planBytes p ≡ told true p
 unfolding planBytes tasksBytes told
@@ -122,83 +123,83 @@ table-told p e = rw e (rw append-nil)
 -- ---- a whole file
 
 -- a file that was read without a refusal so far
-reading : (o : Bool) (s : List ℕ) → Slice s → read (begun o) s .field .bad ≡ 0 → Held o s (read (begun o) s .field) (read (begun o) s .plan)
-reading o s lent a = read-held o s [] (fieldAt o 0 0 false) (emptyPlan defaultCores) (begun-held o) (omega arith) (lent .small) (omega (arith, lent .most)) a
+reading : (d : Default) (o : Bool) (s : List ℕ) → Slice s → read (begun d o) s .field .bad ≡ 0 → Held d o s (read (begun d o) s .field) (read (begun d o) s .plan)
+reading d o s lent a = read-held d o s [] (fieldAt o 0 0 false) (emptyPlan (defaultCores d)) (begun-held d o) (omega arith) (lent .small) (omega (arith, lent .most)) a
 
 -- the place that is told of a field is where its first byte stands
-pub place-is : (o : Bool) (s : List ℕ) → Slice s → read (begun o) s .field .bad ≡ 0 → read (begun o) s .field .place + read (begun o) s .field .count ≡ length s
-place-is o s lent a = reading o s lent a .whole
+pub place-is : (d : Default) (o : Bool) (s : List ℕ) → Slice s → read (begun d o) s .field .bad ≡ 0 → read (begun d o) s .field .place + read (begun d o) s .field .count ≡ length s
+place-is d o s lent a = reading d o s lent a .whole
 
-module _ (o : Bool) (s : List ℕ) (lent : Slice s) (e : Ended (read (begun o) s .field) (read (begun o) s .plan .count)) where
-  held : Held o s (read (begun o) s .field) (read (begun o) s .plan)
-  held = reading o s lent (e .bad)
+module _ (d : Default) (o : Bool) (s : List ℕ) (lent : Slice s) (e : Ended (read (begun d o) s .field) (read (begun d o) s .plan .count)) where
+  held : Held d o s (read (begun d o) s .field) (read (begun d o) s .plan)
+  held = reading d o s lent (e .bad)
 
-  module _ (m : read (begun o) s .field .misshapen ≡ false) where
-    content : Content o (held .named) s (read (begun o) s .field) (read (begun o) s .plan)
+  module _ (m : read (begun d o) s .field .misshapen ≡ false) where
+    content : Content d o (held .named) s (read (begun d o) s .field) (read (begun d o) s .plan)
     content = held .good m
 
-    text : s ≡ told (held .named) (read (begun o) s .plan)
-    text = content .text ∙ ap (λ (k : ℕ). told (held .named) (read (begun o) s .plan) ++ take k (read (begun o) s .field .bytes)) (e .count) ∙ append-nil _
+    text : s ≡ told (held .named) (read (begun d o) s .plan)
+    text = content .text ∙ ap (λ (k : ℕ). told (held .named) (read (begun d o) s .plan) ++ take k (read (begun d o) s .field .bytes)) (e .count) ∙ append-nil _
 
     -- and past its counts it is 0
-    cleaned : cleanPlan (read (begun o) s .plan) ≡ read (begun o) s .plan
-    cleaned = clean-plan-is (read (begun o) s .plan) (content .clean) (content .tasks) (content .pieces)
+    cleaned : cleanPlan (read (begun d o) s .plan) ≡ read (begun d o) s .plan
+    cleaned = clean-plan-is (read (begun d o) s .plan) (content .clean) (content .tasks) (content .pieces)
 
-    again : told true (read (begun o) s .plan) ≡ cond (eqb (getD s 0 0) 1) s (coreField defaultCores ++ s)
-    again = told-again s (held .named) (read (begun o) s .plan) (e .some) text (content .default)
+    again : told true (read (begun d o) s .plan) ≡ cond (eqb (getD s 0 0) 1) s (coreField (defaultCores d) ++ s)
+    again = told-again d s (held .named) (read (begun d o) s .plan) (e .some) text (content .default)
 
--- every accepted table file that names its core count is written again byte for byte, any other with the count of 4 before it
-module _ (s : List ℕ) (lent : Slice s) (accepted : tableRead s .answer ≡ Accepted) where
+-- every accepted table file that names its core count is written again byte for byte, any other with the default's count before it
+module _ (d : Default) (s : List ℕ) (lent : Slice s) (accepted : tableRead d s .answer ≡ Accepted) where
   -- its end was accepted
-  table-ended : tableEnded (read (begun false) s .field) (read (begun false) s .plan) ≡ Accepted
+  table-ended : tableEnded (read (begun d false) s .field) (read (begun d false) s .plan) ≡ Accepted
   unfolding tableRead tableClosed
-  table-ended = sym (table-has _ (cleanPlan (read (begun false) s .plan))) ∙ accepted
+  table-ended = sym (table-has _ (cleanPlan (read (begun d false) s .plan))) ∙ accepted
 
   -- so its fields are good
-  table-fields : Ended (read (begun false) s .field) (read (begun false) s .plan .count)
+  table-fields : Ended (read (begun d false) s .field) (read (begun d false) s .plan .count)
   table-fields = ended-says _ _ (table-passed _ _ table-ended .0)
 
   -- no piece spoils a table
-  table-plain : read (begun false) s .field .misshapen ≡ false
-  table-plain = held false s lent table-fields .plain refl
+  table-plain : read (begun d false) s .field .misshapen ≡ false
+  table-plain = held d false s lent table-fields .plain refl
 
   -- what was read is handed out
-  table-is : tableRead s .table ≡ tableOf (read (begun false) s .plan)
+  table-is : tableRead d s .table ≡ tableOf (read (begun d false) s .plan)
   unfolding tableRead tableClosed
-  table-is = rw table-ended (ap tableOf (cleaned false s lent table-fields table-plain))
+  table-is = rw table-ended (ap tableOf (cleaned d false s lent table-fields table-plain))
 
   -- it is written again
-  pub table-written-again : tableBytes (tableRead s .table) ≡ cond (eqb (getD s 0 0) 1) s (coreField defaultCores ++ s)
-  table-written-again = ap tableBytes table-is ∙ table-told _ (content false s lent table-fields table-plain .alone refl) ∙ again false s lent table-fields table-plain
+  pub table-written-again : tableBytes (tableRead d s .table) ≡ cond (eqb (getD s 0 0) 1) s (coreField (defaultCores d) ++ s)
+  table-written-again = ap tableBytes table-is ∙ table-told _ (content d false s lent table-fields table-plain .alone refl) ∙ again d false s lent table-fields table-plain
 
   -- and its record is a good table
-  pub table-is-good : checkedTable (tableRead s .table) ≡ Accepted
+  pub table-is-good : checkedTable (tableRead d s .table) ≡ Accepted
   table-is-good = rw table-is (table-passed _ _ table-ended .1)
 
--- every accepted plan file that names its core count is written again byte for byte, any other with the count of 4 before it
-module _ (s : List ℕ) (lent : Slice s) (accepted : planRead s .answer ≡ Accepted) where
+-- every accepted plan file that names its core count is written again byte for byte, any other with the default's count before it
+module _ (d : Default) (s : List ℕ) (lent : Slice s) (accepted : planRead d s .answer ≡ Accepted) where
   -- its end was accepted
-  plan-ended : planEnded (read (begun true) s .field) (read (begun true) s .plan) ≡ Accepted
+  plan-ended : planEnded (read (begun d true) s .field) (read (begun d true) s .plan) ≡ Accepted
   unfolding planRead planClosed
-  plan-ended = sym (plan-has _ (cleanPlan (read (begun true) s .plan))) ∙ accepted
+  plan-ended = sym (plan-has _ (cleanPlan (read (begun d true) s .plan))) ∙ accepted
 
   -- so its fields are good
-  plan-fields : Ended (read (begun true) s .field) (read (begun true) s .plan .count)
+  plan-fields : Ended (read (begun d true) s .field) (read (begun d true) s .plan .count)
   plan-fields = ended-says _ _ (plan-passed _ _ plan-ended .0)
 
   -- and no piece spoils the shape
-  plan-plain : read (begun true) s .field .misshapen ≡ false
+  plan-plain : read (begun d true) s .field .misshapen ≡ false
   plan-plain = plan-passed _ _ plan-ended .1 .0
 
   -- what was read is handed out
-  plan-is : planRead s .plan ≡ read (begun true) s .plan
+  plan-is : planRead d s .plan ≡ read (begun d true) s .plan
   unfolding planRead planClosed
-  plan-is = rw plan-ended (cleaned true s lent plan-fields plan-plain)
+  plan-is = rw plan-ended (cleaned d true s lent plan-fields plan-plain)
 
   -- it is written again
-  pub plan-written-again : planBytes (planRead s .plan) ≡ cond (eqb (getD s 0 0) 1) s (coreField defaultCores ++ s)
-  plan-written-again = ap planBytes plan-is ∙ plan-told _ ∙ again true s lent plan-fields plan-plain
+  pub plan-written-again : planBytes (planRead d s .plan) ≡ cond (eqb (getD s 0 0) 1) s (coreField (defaultCores d) ++ s)
+  plan-written-again = ap planBytes plan-is ∙ plan-told _ ∙ again d true s lent plan-fields plan-plain
 
   -- and its record is a good plan
-  pub plan-is-good : checkedPlan (planRead s .plan) ≡ Accepted
+  pub plan-is-good : checkedPlan (planRead d s .plan) ≡ Accepted
   plan-is-good = rw plan-is (plan-passed _ _ plan-ended .1 .1)

@@ -20,6 +20,7 @@ use Rattle.files.specs.Grammar.{number2, number4, lengthFor, kindOf, emptyPlan,
 use Rattle.files.specs.Fields.{tag, tagFits, values, verdict, hold, fieldAt, pieceTaken, nextField, withTask, withPiece, added, settled, step, read}
 use Rattle.files.specs.Reading.{begun}
 use Rattle.writing.specs.Fields.{bytes4, kindByte, coreField, taskField, pieceField}
+use Rattle.files.specs.declared.Default.{Default}
 use Rattle.files.specs.declared.Field.{Field}
 use Rattle.files.specs.declared.Reader.{Reader}
 use Rattle.trips.proofs.Numbers.{number-back}
@@ -94,9 +95,9 @@ abbrev first3 : ℕ → List ℕ
 first3 x = x / 16777216 % 256 ∷ x / 65536 % 256 ∷ x / 256 % 256 ∷ []
 
 -- a core count is read at the start of a file
-pub read-cores : (o : Bool) (m : ℕ) → coresFit m ≡ true → read (begun o) (coreField m) ≡ reader (fieldAt o 4 4 false) (emptyPlan m)
+pub read-cores : (d : Default) (o : Bool) (m : ℕ) → coresFit m ≡ true → read (begun d o) (coreField m) ≡ reader (fieldAt o 4 4 false) (emptyPlan m)
 unfolding read step hold verdict tagFits valuesFault nextField added further coreField
-read-cores o m h = rw h
+read-cores d o m h = rw h
 
 -- a task is read where no piece was
 pub read-task : (o : Bool) (q : ℕ) (w : Bool) (p : Plan) (t : Task) → p .count < 64 → valuesFit t ≡ true

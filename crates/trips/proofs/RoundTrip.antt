@@ -28,6 +28,7 @@ use Rattle.files.specs.Fields.{fieldAt, read}
 use Rattle.files.specs.Reading.{begun, ended, tableEnded, tableClosed, planEnded, cleanPlan, planClosed}
 use Rattle.files.proofs.Clean.{padded-again}
 use Rattle.files.specs.Files.{tableRead, planRead}
+use Rattle.files.specs.declared.Default.{Default}
 use Rattle.files.specs.declared.Field.{Field}
 use Rattle.files.specs.declared.Reader.{Reader}
 use Rattle.trips.proofs.Good.{tasks-same, costs-fit}
@@ -48,11 +49,11 @@ read-none : (r : Reader) (f : ℕ → List ℕ) → read r (row 0 f) ≡ r
 unfolding read row
 read-none r f = refl
 
-module _ (o : Bool) (m : ℕ) (ts : ℕ → Task) (pc : ℕ → Piece) where
+module _ (d : Default) (o : Bool) (m : ℕ) (ts : ℕ → Task) (pc : ℕ → Piece) where
   abbrev after : ℕ → Reader
   after n = reader (fieldAt o (4 + 15 * n) (4 + 15 * n) false) (planOf m n ts 0 pc)
 
-  begun-is : read (begun o) (coreField m) ≡ reader (fieldAt o 4 4 false) (emptyPlan m) → read (begun o) (coreField m) ≡ after 0
+  begun-is : read (begun d o) (coreField m) ≡ reader (fieldAt o 4 4 false) (emptyPlan m) → read (begun d o) (coreField m) ≡ after 0
   unfolding padded tabulate
   begun-is h = h
 
@@ -61,13 +62,13 @@ module _ (o : Bool) (m : ℕ) (ts : ℕ → Task) (pc : ℕ → Piece) where
       let e : further (4 + 15 * n) 15 ≡ 4 + 15 * suc n = further-is _ _ (omega arith) ∙ omega arith in
       read-task o (4 + 15 * n) false (planOf m n ts 0 pc) (ts n) l v ∙ rw (e, padded-more 64 noTask n ts l, add-one)
 
-  pub read-tasks : coresFit m ≡ true → (n : ℕ) → n ≤ 64 → ((i : ℕ) → i < n → valuesFit (ts i) ≡ true) → read (read (begun o) (coreField m)) (row n (λ i. taskField (ts i))) ≡ after n
-  read-tasks h zero l v = read-none _ (λ i. taskField (ts i)) ∙ begun-is (read-cores o m h)
+  pub read-tasks : coresFit m ≡ true → (n : ℕ) → n ≤ 64 → ((i : ℕ) → i < n → valuesFit (ts i) ≡ true) → read (read (begun d o) (coreField m)) (row n (λ i. taskField (ts i))) ≡ after n
+  read-tasks h zero l v = read-none _ (λ i. taskField (ts i)) ∙ begun-is (read-cores d o m h)
   read-tasks h (suc n) l v = read-row _ n (λ i. taskField (ts i)) ∙ ap (λ (r : Reader). read r (taskField (ts n))) (read-tasks h n (omega arith) (λ i k. v i (omega arith))) ∙ one-more n l (v n (omega arith))
 
-  pub tasks-read : (n : ℕ) → GoodTable m n ts → read (begun o) (tasksBytes m n ts) ≡ after n
+  pub tasks-read : (n : ℕ) → GoodTable m n ts → read (begun d o) (tasksBytes m n ts) ≡ after n
   unfolding tasksBytes
-  tasks-read n g = sym (read-parts (begun o) (coreField m) (row n (λ i. taskField (ts i)))) ∙ read-tasks (counts-fit m 16 (g .cores)) n (g .tasks .1) (λ i l. values-fit (ts i) (g .values i l))
+  tasks-read n g = sym (read-parts (begun d o) (coreField m) (row n (λ i. taskField (ts i)))) ∙ read-tasks (counts-fit m 16 (g .cores)) n (g .tasks .1) (λ i l. values-fit (ts i) (g .values i l))
 
 -- ---- tables
 
@@ -82,12 +83,12 @@ table-closes q m n ts pc g =
     let checked : checkedTasks m n (taskOf (planOf m n ts 0 pc)) ≡ Accepted = good-accepted m n _ (tasks-same m n ts _ (λ i l. sym (padded-in 64 noTask n ts i l (omega (arith, g .tasks .1)))) g) in
     rw (ne-eqb n 0 (λ e. omega (arith, g .tasks .0)), checked, padded-again 64 noTask n ts)
 
--- what is written of a good table reads back to the same table
-pub table-reads-back : (t : Table) → checkedTable t ≡ Accepted → tableRead (tableBytes t) ≡ record { answer = Accepted; table = cleanTable t }
+-- what is written of a good table reads back to the same table, whatever the default
+pub table-reads-back : (d : Default) (t : Table) → checkedTable t ≡ Accepted → tableRead d (tableBytes t) ≡ record { answer = Accepted; table = cleanTable t }
 unfolding tableRead tableBytes
-table-reads-back t h =
+table-reads-back d t h =
     let g : GoodTable (t .cores) (t .count) (taskOfTable t) = accepted-good _ _ _ h in
-    ap tableClosed (tasks-read false (t .cores) (taskOfTable t) (λ j. noPiece) (t .count) g) ∙ table-closes _ _ _ _ _ g
+    ap tableClosed (tasks-read d false (t .cores) (taskOfTable t) (λ j. noPiece) (t .count) g) ∙ table-closes _ _ _ _ _ g
 
 pub clean-same : (t : Table) → t .count ≤ 64 → SameTable t (cleanTable t)
 clean-same t h = record { cores = refl; count = refl; tasks = λ i l. sym (padded-in 64 noTask (t .count) (taskOfTable t) i l (omega arith)) }
@@ -123,16 +124,16 @@ clean-good p g =
     let pc : (j : ℕ) → j < p .placed → pieceOf p j ≡ pieceOf (cleanPlan p) j = λ j l. sym (padded-in 128 noPiece (p .placed) (pieceOf p) j l (omega arith)) in
     record { table = tasks-same _ _ _ _ ts (g .table); shaped = sym (shape-same _ _ _ pc _ _ _ _ ts) ∙ g .shaped }
 
--- what is written of a good plan reads back to the same plan
-pub plan-reads-back : (p : Plan) → checkedPlan p ≡ Accepted → planRead (planBytes p) ≡ record { answer = Accepted; plan = cleanPlan p }
+-- what is written of a good plan reads back to the same plan, whatever the default
+pub plan-reads-back : (d : Default) (p : Plan) → checkedPlan p ≡ Accepted → planRead d (planBytes p) ≡ record { answer = Accepted; plan = cleanPlan p }
 unfolding planRead planBytes
-plan-reads-back p h =
+plan-reads-back d p h =
     let g : GoodPlan p = accepted-plan p h in
     let n : (1 ≤ p .count) × (p .count ≤ 64) = g .table .tasks in
     let k : p .placed ≤ 128 = leb-true _ _ (tests _ _ _ _ _ (g .shaped) .1) in
     let here : 4 + 15 * p .count ≡ 4 + 15 * p .count + 10 * 0 = omega arith in
-    let tasks : read (begun true) (tasksBytes (p .cores) (p .count) (taskOf p)) ≡ behind (p .cores) (p .count) (taskOf p) (pieceOf p) 0 = tasks-read true (p .cores) (taskOf p) (pieceOf p) (p .count) (g .table) ∙ ap (λ (q : ℕ). reader (fieldAt true q (4 + 15 * p .count) false) (planOf (p .cores) (p .count) (taskOf p) 0 (pieceOf p))) here in
-    ap planClosed (sym (read-parts (begun true) (tasksBytes (p .cores) (p .count) (taskOf p)) (row (p .placed) (λ j. pieceField (pieceOf p j))))
+    let tasks : read (begun d true) (tasksBytes (p .cores) (p .count) (taskOf p)) ≡ behind (p .cores) (p .count) (taskOf p) (pieceOf p) 0 = tasks-read d true (p .cores) (taskOf p) (pieceOf p) (p .count) (g .table) ∙ ap (λ (q : ℕ). reader (fieldAt true q (4 + 15 * p .count) false) (planOf (p .cores) (p .count) (taskOf p) 0 (pieceOf p))) here in
+    ap planClosed (sym (read-parts (begun d true) (tasksBytes (p .cores) (p .count) (taskOf p)) (row (p .placed) (λ j. pieceField (pieceOf p j))))
     ∙ ap (λ (r : Reader). read r (row (p .placed) (λ j. pieceField (pieceOf p j)))) tasks
     ∙ read-pieces (p .cores) (p .count) (taskOf p) (pieceOf p) (n .1) (p .placed) k (costs-fit p g))
     ∙ plan-closes _ _ refl refl refl (n .0) (plan-accepted (cleanPlan p) (clean-good p g))

@@ -18,6 +18,7 @@ use Rattle.plans.specs.declared.Plan.{Plan}
 use Rattle.writing.specs.Fields.{tableBytes, planBytes}
 use Rattle.files.specs.Files.{tableRead, planRead}
 use Rattle.writing.specs.Writing.{answered, filled, tableWritten, tableFilled, planWritten, planFilled}
+use Rattle.files.specs.declared.Default.{Default}
 use Rattle.files.specs.declared.ReadPlan.{ReadPlan}
 use Rattle.files.specs.declared.ReadTable.{ReadTable}
 use Rattle.writing.specs.declared.Written.{Written}
@@ -37,35 +38,35 @@ length-says Accepted file e n h = go (leb (length file) (length e)) h
     go false q = let z : _≡_ {A = ℕ} 0 1 = cc in absurd (omega arith)
 
 -- what is written of a table reads back to the same table
-pub table-out-and-in : (t : Table) (e e' : List ℕ) (n : ℕ) (q : ReadTable) → written.Length n ≡ tableWritten t e → e' ≡ tableFilled t e → q ≡ tableRead (take n e') → q ≡ record { answer = Accepted; table = cleanTable t }
+pub table-out-and-in : (d : Default) (t : Table) (e e' : List ℕ) (n : ℕ) (q : ReadTable) → written.Length n ≡ tableWritten t e → e' ≡ tableFilled t e → q ≡ tableRead d (take n e') → q ≡ record { answer = Accepted; table = cleanTable t }
 unfolding tableWritten tableFilled
-table-out-and-in t e e' n q h k r =
+table-out-and-in d t e e' n q h k r =
     let l = length-says _ (tableBytes t) e n h in
-    r ∙ ap (λ (x : List ℕ). tableRead (take n x)) k ∙ ap tableRead (l .1) ∙ table-reads-back t (l .0)
+    r ∙ ap (λ (x : List ℕ). tableRead d (take n x)) k ∙ ap (tableRead d) (l .1) ∙ table-reads-back d t (l .0)
 
 -- what is written of a plan reads back to the same plan
-pub plan-out-and-in : (p : Plan) (e e' : List ℕ) (n : ℕ) (q : ReadPlan) → written.Length n ≡ planWritten p e → e' ≡ planFilled p e → q ≡ planRead (take n e') → q ≡ record { answer = Accepted; plan = cleanPlan p }
+pub plan-out-and-in : (d : Default) (p : Plan) (e e' : List ℕ) (n : ℕ) (q : ReadPlan) → written.Length n ≡ planWritten p e → e' ≡ planFilled p e → q ≡ planRead d (take n e') → q ≡ record { answer = Accepted; plan = cleanPlan p }
 unfolding planWritten planFilled
-plan-out-and-in p e e' n q h k r =
+plan-out-and-in d p e e' n q h k r =
     let l = length-says _ (planBytes p) e n h in
-    r ∙ ap (λ (x : List ℕ). planRead (take n x)) k ∙ ap planRead (l .1) ∙ plan-reads-back p (l .0)
+    r ∙ ap (λ (x : List ℕ). planRead d (take n x)) k ∙ ap (planRead d) (l .1) ∙ plan-reads-back d p (l .0)
 
 -- every accepted table file that names its core count is written again byte for byte into any buffer that has room for it
-pub table-in-and-out : (s e e' : List ℕ) (q : ReadTable) (r : Written) → Slice s → q ≡ tableRead s → q .answer ≡ Accepted → getD s 0 0 ≡ 1 → length s ≤ length e
+pub table-in-and-out : (d : Default) (s e e' : List ℕ) (q : ReadTable) (r : Written) → Slice s → q ≡ tableRead d s → q .answer ≡ Accepted → getD s 0 0 ≡ 1 → length s ≤ length e
     → r ≡ tableWritten (q .table) e → e' ≡ tableFilled (q .table) e → (r ≡ written.Length (length s)) × (e' ≡ s ++ drop (length s) e)
 unfolding tableWritten tableFilled
-table-in-and-out s e e' q r lent k a c l h j =
-    let ok : tableRead s .answer ≡ Accepted = ap (λ (x : ReadTable). x .answer) (sym k) ∙ a in
-    let same : tableBytes (q .table) ≡ s = ap (λ (x : ReadTable). tableBytes (x .table)) k ∙ table-written-again s lent ok ∙ rw (eq-eqb _ _ c) in
-    let w = write-done _ (tableBytes (q .table)) e (ap (λ (x : ReadTable). checkedTable (x .table)) k ∙ table-is-good s lent ok) (length s) (ap length same) (length s) (s ++ drop (length s) e) refl l (ap (λ (x : List ℕ). x ++ drop (length s) e) (sym same)) in
+table-in-and-out d s e e' q r lent k a c l h j =
+    let ok : tableRead d s .answer ≡ Accepted = ap (λ (x : ReadTable). x .answer) (sym k) ∙ a in
+    let same : tableBytes (q .table) ≡ s = ap (λ (x : ReadTable). tableBytes (x .table)) k ∙ table-written-again d s lent ok ∙ rw (eq-eqb _ _ c) in
+    let w = write-done _ (tableBytes (q .table)) e (ap (λ (x : ReadTable). checkedTable (x .table)) k ∙ table-is-good d s lent ok) (length s) (ap length same) (length s) (s ++ drop (length s) e) refl l (ap (λ (x : List ℕ). x ++ drop (length s) e) (sym same)) in
     (h ∙ sym (w .0), j ∙ sym (w .1))
 
 -- every accepted plan file that names its core count is written again byte for byte into any buffer that has room for it
-pub plan-in-and-out : (s e e' : List ℕ) (q : ReadPlan) (r : Written) → Slice s → q ≡ planRead s → q .answer ≡ Accepted → getD s 0 0 ≡ 1 → length s ≤ length e
+pub plan-in-and-out : (d : Default) (s e e' : List ℕ) (q : ReadPlan) (r : Written) → Slice s → q ≡ planRead d s → q .answer ≡ Accepted → getD s 0 0 ≡ 1 → length s ≤ length e
     → r ≡ planWritten (q .plan) e → e' ≡ planFilled (q .plan) e → (r ≡ written.Length (length s)) × (e' ≡ s ++ drop (length s) e)
 unfolding planWritten planFilled
-plan-in-and-out s e e' q r lent k a c l h j =
-    let ok : planRead s .answer ≡ Accepted = ap (λ (x : ReadPlan). x .answer) (sym k) ∙ a in
-    let same : planBytes (q .plan) ≡ s = ap (λ (x : ReadPlan). planBytes (x .plan)) k ∙ plan-written-again s lent ok ∙ rw (eq-eqb _ _ c) in
-    let w = write-done _ (planBytes (q .plan)) e (ap (λ (x : ReadPlan). checkedPlan (x .plan)) k ∙ plan-is-good s lent ok) (length s) (ap length same) (length s) (s ++ drop (length s) e) refl l (ap (λ (x : List ℕ). x ++ drop (length s) e) (sym same)) in
+plan-in-and-out d s e e' q r lent k a c l h j =
+    let ok : planRead d s .answer ≡ Accepted = ap (λ (x : ReadPlan). x .answer) (sym k) ∙ a in
+    let same : planBytes (q .plan) ≡ s = ap (λ (x : ReadPlan). planBytes (x .plan)) k ∙ plan-written-again d s lent ok ∙ rw (eq-eqb _ _ c) in
+    let w = write-done _ (planBytes (q .plan)) e (ap (λ (x : ReadPlan). checkedPlan (x .plan)) k ∙ plan-is-good d s lent ok) (length s) (ap length same) (length s) (s ++ drop (length s) e) refl l (ap (λ (x : List ℕ). x ++ drop (length s) e) (sym same)) in
     (h ∙ sym (w .0), j ∙ sym (w .1))

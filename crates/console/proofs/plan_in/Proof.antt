@@ -10,7 +10,7 @@ read-plan-requires : tie.Need-read-plan-requires
 read-plan-requires c κs = search needs
 
 returns : tie.Need-returns
-returns c = c .read-plan .ensures ∙ ap planRead (sym (take-all (c .before .before .before .args .n) (c .before .before .before .args .bytes .now) (omega arith)))
+returns c = c .read-plan .ensures ∙ ap (planRead (c .before .before .before .args .default)) (sym (take-all (c .before .before .before .args .n) (c .before .before .before .args .bytes .now) (omega arith)))
 
 slice-aggregate-read-plan : tie.Need-slice-aggregate-read-plan
 slice-aggregate-read-plan c = sym (length-take-le _ _ (search needs))

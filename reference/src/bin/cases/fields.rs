@@ -40,7 +40,7 @@ pub fn piece_field(task: u8, core: u8, kind: u8, cost: u32) -> Field {
 /// The fields of a table, the count left out in some cases.
 pub fn table_fields(rng: &mut Rng, table: &Table) -> Vec<Field> {
     let mut fields = Vec::new();
-    if table.cores != 4 || rng.one_in(2) {
+    if table.cores != 8 || rng.one_in(2) {
         fields.push(cores_field(table.cores as u8));
     }
     for task in &table.tasks {

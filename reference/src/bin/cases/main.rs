@@ -21,7 +21,7 @@ fn main() -> ExitCode {
             ExitCode::FAILURE
         }
         None => {
-            eprintln!("usage: cases lister|runner|replay SEED COUNT FOLDER");
+            eprintln!("usage: cases lister|plan_writer|runner|replay SEED COUNT FOLDER");
             ExitCode::from(2)
         }
     }
@@ -33,7 +33,7 @@ fn run(words: &[String]) -> Option<io::Result<()>> {
         return None;
     };
     let make: fn(&mut Rng) -> Vec<u8> = match name.as_str() {
-        "lister" => tables::input,
+        "lister" | "plan_writer" => tables::input,
         "runner" => plans::input,
         "replay" => ticks::input,
         _ => return None,
