@@ -1,4 +1,6 @@
 // Our side of the benchmark: a table file planned, and ticks of a plan file at full rate, each told as a checksum.
+#![tactic(auto)]
+
 use files::Default;
 use jobs::{CoreRun, Runner, Tasks};
 use plans::{Kind, Plan};

@@ -1,4 +1,6 @@
 // The dispatcher's record, which is stepped where it stands.
+#![tactic(auto)]
+
 ghost use Rattle.std.specs.Prelude.{◌≡◌};
 ghost use Rattle.dispatch.specs.Tick.{tick as ticked};
 ghost use Rattle.board.specs.Ran.{ran_of};
@@ -9,7 +11,7 @@ use plans::Plan;
 use tasks::Answer;
 
 // What a tick shows: its answer, and what runs on each core in it.
-#[derive(Drop)]
+#[derive(Clone, Copy)]
 pub struct Ran {
     pub answer: Answer,
     pub runs: [CoreRun; 16],

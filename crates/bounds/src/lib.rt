@@ -1,4 +1,6 @@
 // Local deadline and bound of a piece, for sister crates and asked from outside.
+#![tactic(auto)]
+
 ghost use Rattle.std.specs.Prelude.{◌≡◌, ◌&&◌, cond, ◌≤◌, ◌<◌, ◌-◌, eqb};
 ghost use Rattle.plans.specs.Pieces.{piece_of, task_of};
 ghost use Rattle.plans.specs.Pieces as pieces;
@@ -13,7 +15,7 @@ use plans::{Margin, Piece, Plan};
 use tasks::{Answer, Refusal, Task};
 
 // The bound asked from outside: a piece's bound and margin, or why there is none.
-#[derive(Drop)]
+#[derive(Clone, Copy)]
 pub enum Bounding {
     Known { bound: u32, margin: Margin },
     Refused(Refusal),
@@ -67,7 +69,7 @@ fn less(a: u32, b: u32) -> u32
 }
 
 // A piece's local deadline and its bound.
-#[derive(Drop)]
+#[derive(Clone, Copy)]
 pub struct Bounded {
     pub deadline: u32,
     pub bound: u32,

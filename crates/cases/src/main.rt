@@ -1,4 +1,6 @@
 // The cases of document 01 that are not proved as examples: each prints what comes of it, and the gate compares.
+#![tactic(auto)]
+
 use board::Ran;
 use bounds::Bounding;
 use dispatch::State;

@@ -1,5 +1,7 @@
 // Standard input and standard output of the programs: files that come in parts are read to their end, and what is put into lent bytes is printed.
 // A read that fails counts as the end of the input.
+#![tactic(auto)]
+
 ghost use Rattle.std.specs.Prelude.{◌≡◌, take};
 ghost use Rattle.files.specs.Files.{plan_read};
 
@@ -8,7 +10,7 @@ use libc::{STDERR_FILENO, STDIN_FILENO, STDOUT_FILENO};
 use tasks::Refusal;
 
 // A reader after one more part, and whether the input may go on.
-#[derive(Drop)]
+#[derive(Clone, Copy)]
 struct Fed {
     reader: Reader,
     more: bool,

@@ -1,4 +1,6 @@
 // The dispatcher: a fresh state, and one tick by the six rules.
+#![tactic(auto)]
+
 ghost use Rattle.std.specs.Prelude.{◌≡◌, true, not, ◌&&◌, cond, ℕ, ◌+◌, ◌≤◌, ◌<◌, min, eqb};
 ghost use Rattle.tasks.specs.Below.{tabulate, padded, first};
 ghost use Rattle.tasks.specs.declared.Answer.TheVariants.{Accepted};
@@ -20,7 +22,7 @@ use plans::{Kind, Piece, Plan};
 use tasks::{Answer, CoreNo, Refusal, Task, TaskNo};
 
 // What a tick answers, what runs on each core in it, and the next state. On a refusal nothing runs and the state is the one given.
-#[derive(Drop)]
+#[derive(Clone, Copy)]
 pub struct Ticked {
     pub answer: Answer,
     pub runs: [CoreRun; 16],
@@ -95,7 +97,7 @@ fn refused(answer: Answer, state: State) -> Ticked
 // ---- The state and the six rules.
 
 // A job for each task, what ran on each core in the last tick, and two totals.
-#[derive(Drop)]
+#[derive(Clone, Copy)]
 pub struct State {
     pub jobs: [Job; 64],
     pub last: [CoreRun; 16],
@@ -104,7 +106,7 @@ pub struct State {
 }
 
 // Whether the plan and the state are refused, and the state after the rules or, on a refusal, the one given.
-#[derive(Drop)]
+#[derive(Clone, Copy)]
 struct Advanced {
     answer: Answer,
     state: State,
@@ -385,7 +387,7 @@ fn aged_job(mut job: Job, period: u32) -> Job
 // ---- The choice of what runs on each core.
 
 // Where a job stands: whether it is active, its piece, whether its task has one after that, and its task's deadline.
-#[derive(Drop)]
+#[derive(Clone, Copy)]
 struct Stand {
     active: bool,
     more: bool,
@@ -461,7 +463,7 @@ fn no_job() -> Job
 // ---- What is wrong with the two sets of a tick.
 
 // The lowest task that a refusal concerns, if there is one.
-#[derive(Drop)]
+#[derive(Clone, Copy)]
 enum Lowest {
     Nobody,
     Task(TaskNo),

@@ -1,4 +1,6 @@
 // The reading of table and plan files: bytes are taken one after another, so that a file may come in parts.
+#![tactic(auto)]
+
 ghost use Rattle.std.specs.Prelude.{◌≡◌, true, false, ◌+◌, ◌≤◌, ◌<◌, get_or, replicate};
 ghost use Rattle.tasks.specs.Below.{padded};
 ghost use Rattle.tasks.specs.Tables.{no_task};
@@ -14,7 +16,7 @@ use tasks::{Answer, CoreNo, Place, Refusal, Table, Task, TaskNo};
 // ---- The fields of a file.
 
 // The field that is being read, and what the fields before it leave for it to be judged by.
-#[derive(Drop)]
+#[derive(Clone, Copy)]
 pub struct Field {
     // pieces may stand after all tasks: it is a plan file
     pub pieces: bool,
@@ -31,7 +33,7 @@ pub struct Field {
 }
 
 // A file that is being read: its next field, and what the fields before that hold.
-#[derive(Drop)]
+#[derive(Clone, Copy)]
 pub struct Reader {
     pub field: Field,
     pub plan: Plan,
@@ -235,21 +237,21 @@ pub fn feed(reader: Reader, part: &[u8]) -> Reader
 // ---- The reader: where it begins, and what the end of a file is answered with.
 
 // How many cores a file is for that does not name its core count. Whoever has a file read states it.
-#[derive(Drop)]
+#[derive(Clone, Copy)]
 pub enum Default {
     Four,
     Eight,
 }
 
 // What a table file is answered with, and its table, which on a refusal is empty.
-#[derive(Drop)]
+#[derive(Clone, Copy)]
 pub struct ReadTable {
     pub answer: Answer,
     pub table: Table,
 }
 
 // What a plan file is answered with, and its plan, which on a refusal is empty.
-#[derive(Drop)]
+#[derive(Clone, Copy)]
 pub struct ReadPlan {
     pub answer: Answer,
     pub plan: Plan,

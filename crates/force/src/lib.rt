@@ -1,4 +1,6 @@
 // The table in force: the machine's own table if it is good, otherwise the shipped one if that is good.
+#![tactic(auto)]
+
 ghost use Rattle.std.specs.Prelude.{◌≡◌};
 ghost use Rattle.force.specs.InForce.{in_force, cores_in_force, TaskFields, IsInForce};
 
@@ -6,7 +8,7 @@ use files::{Default, read_table};
 use tasks::{Answer, Refusal};
 
 // Which of the two slices is in force or, if both are bad, the refusal of the shipped one.
-#[derive(Drop)]
+#[derive(Clone, Copy)]
 pub enum InForce {
     Own,
     Shipped,
@@ -14,7 +16,7 @@ pub enum InForce {
 }
 
 // The core count of the table in force or, if both slices are bad, the refusal of the shipped one.
-#[derive(Drop)]
+#[derive(Clone, Copy)]
 pub enum CoresInForce {
     Cores(usize),
     NoTable(Refusal),

@@ -1,4 +1,6 @@
 // Ticks at full rate: the tasks that may be released, runs that release them as soon as allowed, and what is seen in them.
+#![tactic(auto)]
+
 ghost use Rattle.std.specs.Prelude.{◌≡◌, true, false, cond, ◌<◌, max, eqb};
 ghost use Rattle.jobs.specs.Jobs.{by_phase, names};
 ghost use Rattle.fullrate.specs.Allowed.{no_tasks, with_task, allowed_set};
@@ -66,14 +68,14 @@ pub fn all_allowed(plan: Plan, state: State) -> Tasks
 // ---- Runs, and the longest response seen.
 
 // The state after a run, and the longest response that was seen of each task.
-#[derive(Drop)]
+#[derive(Clone, Copy)]
 pub struct Watched {
     pub state: State,
     pub longest: [u32; 64],
 }
 
 // The longest response seen of each task so far.
-#[derive(Drop)]
+#[derive(Clone, Copy)]
 struct Seen {
     longest: [u32; 64],
 }

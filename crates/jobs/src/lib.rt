@@ -1,4 +1,6 @@
 // Jobs, what runs on a core, sets of tasks, and whether a state's jobs and cores are well made.
+#![tactic(auto)]
+
 ghost use Rattle.std.specs.Prelude.{◌≡◌, ◌&&◌, ◌≤◌, min, eqb, length};
 ghost use Rattle.tasks.specs.Below.{tabulate};
 ghost use Rattle.plans.specs.Pieces.{task_of, piece_of};
@@ -9,7 +11,7 @@ ghost use Rattle.jobs.specs.WellMade.{job_well_made, jobs_well_made, cores_well_
 use plans::{Piece, Plan};
 use tasks::{Task, TaskNo};
 
-#[derive(Drop)]
+#[derive(Clone, Copy)]
 pub enum Phase {
     Never,
     Active,
@@ -17,7 +19,7 @@ pub enum Phase {
 }
 
 // One task's job. `piece` is the place in the plan's list of the piece that an active job is at, `ran` the ticks run there.
-#[derive(Drop)]
+#[derive(Clone, Copy)]
 pub struct Job {
     pub phase: Phase,
     pub late: bool,
@@ -26,20 +28,20 @@ pub struct Job {
     pub ran: u32,
 }
 
-#[derive(Drop)]
+#[derive(Clone, Copy)]
 pub enum Runner {
     Idle,
     Runs(TaskNo),
 }
 
 // What runs, or ran, on one core.
-#[derive(Drop)]
+#[derive(Clone, Copy)]
 pub struct CoreRun {
     pub runner: Runner,
 }
 
 // A set of tasks: order and repeats mean nothing, and a count above 64 reads as 64.
-#[derive(Drop)]
+#[derive(Clone, Copy)]
 pub struct Tasks {
     pub members: [TaskNo; 64],
     pub count: usize,

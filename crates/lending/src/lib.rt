@@ -1,4 +1,6 @@
 // A lent list of piece records, over which a bound is added up.
+#![tactic(auto)]
+
 ghost use Rattle.std.specs.Prelude.{◌≡◌, ℕ, ◌≤◌, ◌<◌, length};
 ghost use Rattle.plans.specs.Pieces.{no_piece};
 ghost use Rattle.lending.specs.Adding.{lent_piece, up_to, unplaced_of, placed_on, asked_of, begin_of, added, Bearable, bounding_of};
@@ -9,7 +11,7 @@ use plans::{Kind, Piece, Plan};
 use tasks::{Answer, CoreNo, Refusal, Table, Task, TaskNo};
 
 // A bound that is being added up: the answer, how many pieces there are to add, their tasks, the piece asked for, its local deadline, and the sum so far.
-#[derive(Drop)]
+#[derive(Clone, Copy)]
 struct Adding {
     answer: Answer,
     reach: usize,

@@ -1,4 +1,6 @@
 // A case that lends a list: document 01's listing for two cores and (6,10,10) three times. It prints each piece's bound, then a piece past the list and a list without the plan shape.
+#![tactic(auto)]
+
 ghost use Rattle.std.specs.Prelude.{◌≡◌};
 ghost use Rattle.lending.specs.Lent.{bound_lent};
 

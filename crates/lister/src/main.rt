@@ -1,4 +1,6 @@
 // The plan lister: reads a table file from standard input and prints its plan, or why there is none.
+#![tactic(auto)]
+
 use files::Default;
 
 // The lent bytes have room for every listing.

@@ -1,4 +1,6 @@
 // The plan writer: reads a table file from standard input and writes its plan file to standard output, or a refusal's line to standard error.
+#![tactic(auto)]
+
 use files::Default;
 use writing::Written;
 

@@ -1,4 +1,6 @@
 // The plan file of a table file that was read.
+#![tactic(auto)]
+
 ghost use Rattle.std.specs.Prelude.{◌≡◌};
 ghost use Rattle.planfile.specs.PlanFile.{file_written, file_filled};
 

@@ -1,5 +1,7 @@
 // The listing of a plan, and what the lister prints, in lent bytes: a text is put in from `at` on, and the answer is where it ends.
 // Where the longest text of its kind has no room, nothing is put and the answer is `at`.
+#![tactic(auto)]
+
 ghost use Rattle.std.specs.Prelude.{◌≡◌};
 ghost use Rattle.texts.specs.Text.{put_end, put_in};
 ghost use Rattle.planlines.specs.Listing.{head_text, head_most, kind_text, piece_text, piece_most, listing_text, listing_most, planned_text, lister_text};

@@ -1,4 +1,6 @@
 // The planner: a task table laid out over the cores of a board.
+#![tactic(auto)]
+
 ghost use Rattle.std.specs.Prelude.{◌≡◌, not, ◌&&◌, ◌≤◌, ◌<◌, min, eqb};
 ghost use Rattle.tasks.specs.Below.{all, first};
 ghost use Rattle.bounds.specs.Leaves.{Moderate};
@@ -18,21 +20,21 @@ use plans::{Kind, Piece, Plan};
 use tasks::{Answer, CoreNo, Refusal, Table, Task, TaskNo};
 
 // A plan while it is laid out: its pieces so far, and which cores are closed.
-#[derive(Drop)]
+#[derive(Clone, Copy)]
 struct Draft {
     plan: Plan,
     closed: [bool; 16],
 }
 
 // What planning a table answers, and the plan. On a refusal the plan is all zeros.
-#[derive(Drop)]
+#[derive(Clone, Copy)]
 pub struct Planned {
     pub answer: Answer,
     pub plan: Plan,
 }
 
 // What sharing a task out comes to: whether it is placed, and the draft then.
-#[derive(Drop)]
+#[derive(Clone, Copy)]
 struct Shared {
     placed: bool,
     plan: Plan,
@@ -40,7 +42,7 @@ struct Shared {
 }
 
 // The core that takes a task whole, if one does.
-#[derive(Drop)]
+#[derive(Clone, Copy)]
 enum Taker {
     Nowhere,
     Core(CoreNo),

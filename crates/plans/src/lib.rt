@@ -1,4 +1,6 @@
 // The vocabulary of plans: pieces, plans, interference, rank and margin; and the plan shape with its check.
+#![tactic(auto)]
+
 ghost use Rattle.std.specs.Prelude.{◌≡◌, ◌&&◌, cond, ◌≤◌, ◌<◌, ℕ, ◌-◌, leb, ltb};
 ghost use Rattle.tasks.specs.Below.{all};
 ghost use Rattle.plans.specs.Margins as meaning;
@@ -10,13 +12,13 @@ ghost use Rattle.plans.specs.Shape.{is_share, in_order, piece_fits, checked_plan
 
 use tasks::{Answer, CoreNo, Refusal, Task, TaskNo};
 
-#[derive(Drop)]
+#[derive(Clone, Copy)]
 pub enum Kind {
     Whole,
     Share,
 }
 
-#[derive(Drop)]
+#[derive(Clone, Copy)]
 pub struct Piece {
     pub task: TaskNo,
     pub core: CoreNo,
@@ -25,7 +27,7 @@ pub struct Piece {
 }
 
 // The first `count` of `tasks` and the first `placed` of `pieces` are the plan's; the others are not read.
-#[derive(Drop)]
+#[derive(Clone, Copy)]
 pub struct Plan {
     pub cores: usize,
     pub count: usize,
@@ -35,7 +37,7 @@ pub struct Plan {
 }
 
 // A local deadline less a bound: so much is left, or the bound is so much over.
-#[derive(Drop)]
+#[derive(Clone, Copy)]
 pub enum Margin {
     Left(u32),
     Over(u32),

@@ -1,4 +1,6 @@
 // Replays: ticks come as bytes, one request after another; those that are whole are made, and their lines are told.
+#![tactic(auto)]
+
 ghost use Rattle.std.specs.Prelude.{◌≡◌, ◌<◌, ◌+◌, ◌-◌, ◌≤◌, length, get_or, take};
 ghost use Rattle.tasks.specs.Below.{padded};
 ghost use Rattle.playback.specs.Requests.{tasks_at, finished_in, released_in, judged};
@@ -13,7 +15,7 @@ use tasks::{Answer, Place, Refusal, TaskNo};
 // ---- A tick's request as bytes.
 
 // Whether a request is whole and good, and how many bytes it takes.
-#[derive(Drop)]
+#[derive(Clone, Copy)]
 struct Judged {
     answer: Answer,
     size: usize,
@@ -85,7 +87,7 @@ fn byte_at(bytes: &[u8], i: usize) -> usize
 // ---- Where a replay stands: how it begins, and what its end tells.
 
 // A replay under way: the state, the bytes at hand, which are the first `count`, and the place of the first of them in the input.
-#[derive(Drop)]
+#[derive(Clone, Copy)]
 pub struct Player {
     pub state: State,
     pub bytes: [u8; 4096],
@@ -128,7 +130,7 @@ fn asked(plan: Plan, state: State, bytes: &[u8]) -> Ticked
 }
 
 // Where playing comes to: the state, where the next request begins among the bytes at hand, and how long the lines are.
-#[derive(Drop)]
+#[derive(Clone, Copy)]
 struct Reached {
     state: State,
     at: usize,
@@ -176,7 +178,7 @@ fn left(bytes: [u8; 4096], count: usize, at: usize) -> [u8; 4096]
 }
 
 // A player after some requests, and how long their lines are.
-#[derive(Drop)]
+#[derive(Clone, Copy)]
 pub struct Played {
     pub player: Player,
     pub length: usize,

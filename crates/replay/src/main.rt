@@ -1,4 +1,6 @@
 // Replays what a unit did: standard input is the length of a plan file in two bytes, high first, that plan file, and then ticks to the end.
+#![tactic(auto)]
+
 ghost use Rattle.std.specs.Prelude.{◌≤◌, ◌<◌, length};
 
 use files::Default;
@@ -8,7 +10,7 @@ use playback::Player;
 use tasks::{Answer, Place, Refusal};
 
 // A player after one more part of the input, and whether the input may go on.
-#[derive(Drop)]
+#[derive(Clone, Copy)]
 struct Fed {
     player: Player,
     more: bool,

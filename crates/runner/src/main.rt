@@ -1,4 +1,6 @@
 // The second program: reads a plan file from standard input and makes 20 ticks, with every task released as soon as allowed.
+#![tactic(auto)]
+
 use files::Default;
 
 // The lent bytes have room for all lines.

@@ -1,21 +1,23 @@
 // The vocabulary of task tables: numbers of tasks and cores, tasks, tables, every way to say no, and the check of a table.
+#![tactic(auto)]
+
 ghost use Rattle.std.specs.Prelude.{◌≡◌, ◌&&◌, ◌<◌, min, leb, get_or};
 ghost use Rattle.tasks.specs.Places.{further};
 ghost use Rattle.tasks.specs.Tables.{values_fit, no_task, checked_tasks, checked_table};
 
 // A task's number in table order: document 004's T. Never a core's.
-#[derive(Drop)]
+#[derive(Clone, Copy)]
 pub struct TaskNo(pub u8);
 
 // A core's number: document 004's P. Never a task's.
-#[derive(Drop)]
+#[derive(Clone, Copy)]
 pub struct CoreNo(pub u8);
 
 // A place in a file, in bytes from its start.
-#[derive(Drop)]
+#[derive(Clone, Copy)]
 pub struct Place(pub usize);
 
-#[derive(Drop)]
+#[derive(Clone, Copy)]
 pub struct Task {
     pub cost: u32,
     pub deadline: u32,
@@ -23,7 +25,7 @@ pub struct Task {
 }
 
 // The first `count` of `tasks` are the table's; the others are not read.
-#[derive(Drop)]
+#[derive(Clone, Copy)]
 pub struct Table {
     pub cores: usize,
     pub count: usize,
@@ -31,7 +33,7 @@ pub struct Table {
 }
 
 // A refusal of document 01, with what it tells. 4, 5 and 6 tell a place for a file and a number for a record.
-#[derive(Drop)]
+#[derive(Clone, Copy)]
 pub enum Refusal {
     CutShort(Place),
     WrongTag(Place),
@@ -52,7 +54,7 @@ pub enum Refusal {
 }
 
 // What a call that can refuse answers.
-#[derive(Drop)]
+#[derive(Clone, Copy)]
 pub enum Answer {
     Accepted,
     Refused(Refusal),

@@ -1,5 +1,7 @@
 // Texts that a program prints, made of words and numbers in lent bytes, and the line of a refusal.
 // A text is put in from `at` on, and the answer is where it ends. Where the longest text of its kind has no room, nothing is put and the answer is `at`.
+#![tactic(auto)]
+
 ghost use Rattle.std.specs.Prelude.{◌≡◌, ◌++◌, ◌+◌, ◌≤◌, ltb, length, drop};
 ghost use Rattle.tasks.specs.Refusals.{place as at_place, task as ofTask, given as wasGiven, needed as wasNeeded, nothing, number as numbered, tells};
 ghost use Rattle.texts.specs.Text.{put_end, put_in, decimal};
@@ -37,7 +39,7 @@ pub fn words(out: &mut [u8], at: usize, words: &[u8]) -> usize
 }
 
 // A number's decimal digits, which are the bytes from `start` on.
-#[derive(Drop)]
+#[derive(Clone, Copy)]
 struct Digits {
     bytes: [u8; 20],
     start: usize,

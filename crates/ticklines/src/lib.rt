@@ -1,5 +1,7 @@
 // The lines of ticks and their totals, what the runner prints, and the responses of a watched run, in lent bytes: a text is put in from `at` on, and the answer is where it ends.
 // Where the longest text of its kind has no room, nothing is put and the answer is `at`.
+#![tactic(auto)]
+
 ghost use Rattle.std.specs.Prelude.{◌≡◌};
 ghost use Rattle.texts.specs.Text.{put_end, put_in};
 ghost use Rattle.fullrate.specs.FullRate.{full_tick};

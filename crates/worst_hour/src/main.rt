@@ -1,5 +1,7 @@
 // The worst hour: a slope table on four and on eight cores, planned and run at full rate for 100,000 ticks.
 // Prints each plan, the totals, and the longest response seen of each task beside its deadline.
+#![tactic(auto)]
+
 use tasks::{Answer, Table, Task};
 
 fn task(cost: u32, deadline: u32, period: u32) -> Task {

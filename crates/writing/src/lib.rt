@@ -1,4 +1,6 @@
 // The writer of table and plan files.
+#![tactic(auto)]
+
 ghost use Rattle.std.specs.Prelude.{◌++◌, ◌≡◌, ◌+◌, ◌*◌, ◌≤◌, length, get_or, drop};
 ghost use Rattle.std.proofs.lemmas.List.Edits.{sets};
 ghost use Rattle.tasks.specs.Below.{row};
@@ -11,7 +13,7 @@ use plans::{Kind, Piece, Plan};
 use tasks::{Answer, Refusal, Table, Task};
 
 // The length of the file that was written, or why none was.
-#[derive(Drop)]
+#[derive(Clone, Copy)]
 pub enum Written {
     Length(usize),
     Refused(Refusal),
