@@ -3,7 +3,7 @@
 #![tactic(auto)]
 
 ghost use Rattle.std.specs.Prelude.{◌≡◌, ◌++◌, ◌+◌, ◌≤◌, ltb, length, drop};
-ghost use Rattle.tasks.specs.Refusals.{place as at_place, task as ofTask, given as wasGiven, needed as wasNeeded, nothing, number as numbered, tells};
+ghost use Rattle.tasks.specs.Refusals.{place as at_place, task as about_task, given as was_given, needed as was_needed, nothing, number as numbered, tells};
 ghost use Rattle.texts.specs.Text.{put_end, put_in, decimal};
 ghost use Rattle.texts.specs.Telling.{told_text, told_most, refusal_text, refusal_most};
 
@@ -93,7 +93,7 @@ fn of_place(out: &mut [u8], at: usize, which: u64, place: Place) -> usize
 
 // A refusal's number and the task that it tells.
 fn of_task(out: &mut [u8], at: usize, which: u64, task: TaskNo) -> usize
-    ensures { (result ≡ put_end told_most at out.old (decimal which ++ told_text (ofTask task.0))) × (out.new ≡ put_in told_most at out.old (decimal which ++ told_text (ofTask task.0))) }
+    ensures { (result ≡ put_end told_most at out.old (decimal which ++ told_text (about_task task.0))) × (out.new ≡ put_in told_most at out.old (decimal which ++ told_text (about_task task.0))) }
 {
     if short(out.len(), at, 47) {
         return at;
@@ -105,7 +105,7 @@ fn of_task(out: &mut [u8], at: usize, which: u64, task: TaskNo) -> usize
 
 // A refusal's number and the value given.
 fn of_given(out: &mut [u8], at: usize, which: u64, given: usize) -> usize
-    ensures { (result ≡ put_end told_most at out.old (decimal which ++ told_text (wasGiven given))) × (out.new ≡ put_in told_most at out.old (decimal which ++ told_text (wasGiven given))) }
+    ensures { (result ≡ put_end told_most at out.old (decimal which ++ told_text (was_given given))) × (out.new ≡ put_in told_most at out.old (decimal which ++ told_text (was_given given))) }
 {
     if short(out.len(), at, 47) {
         return at;
@@ -117,7 +117,7 @@ fn of_given(out: &mut [u8], at: usize, which: u64, given: usize) -> usize
 
 // A refusal's number and the length needed.
 fn of_needed(out: &mut [u8], at: usize, which: u64, length: usize) -> usize
-    ensures { (result ≡ put_end told_most at out.old (decimal which ++ told_text (wasNeeded length))) × (out.new ≡ put_in told_most at out.old (decimal which ++ told_text (wasNeeded length))) }
+    ensures { (result ≡ put_end told_most at out.old (decimal which ++ told_text (was_needed length))) × (out.new ≡ put_in told_most at out.old (decimal which ++ told_text (was_needed length))) }
 {
     if short(out.len(), at, 47) {
         return at;
