@@ -7,16 +7,18 @@ use dispatch::State;
 use files::{Default, ReadTable};
 use force::{CoresInForce, InForce};
 use jobs::{Job, Phase, Tasks};
-use libc::STDOUT_FILENO;
 use plans::{Kind, Piece, Plan};
 use tasks::{Answer, CoreNo, Table, Task, TaskNo};
 use writing::Written;
+
+// The file of standard output.
+const STDOUT: i32 = 1;
 
 // The number of no task.
 const NONE: u8 = 64;
 
 fn say(words: &[u8]) {
-    io::write_all(STDOUT_FILENO, words);
+    io::write_all(STDOUT, words);
 }
 
 fn say_answer(words: &[u8], answer: Answer) {
@@ -36,7 +38,7 @@ fn say_written(words: &[u8], written: Written) {
     say(words);
     match written {
         Written::Length(length) => {
-            io::print_decimal(STDOUT_FILENO, length as u64);
+            io::print_decimal(STDOUT, length as u64);
             say(b" bytes\n");
         }
         Written::Refused(refusal) => console::print_refusal(refusal),
@@ -51,7 +53,7 @@ fn wide(x: u8) -> u64 {
 fn say_bytes(bytes: &[u8]) {
     let mut i = 0;
     while i < bytes.len() {
-        io::print_hex(STDOUT_FILENO, wide(bytes[i]), 2);
+        io::print_hex(STDOUT, wide(bytes[i]), 2);
         say(b" ");
         i += 1;
     }
@@ -156,7 +158,7 @@ fn cores_in_force<'a>(default: Default, own: &'a [u8], shipped: &'a [u8]) {
     say(b"its cores: ");
     match force::cores_in_force(default, own, shipped) {
         CoresInForce::Cores(count) => {
-            io::print_decimal(STDOUT_FILENO, count as u64);
+            io::print_decimal(STDOUT, count as u64);
             say(b"\n");
         }
         CoresInForce::NoTable(refusal) => console::print_refusal(refusal),
@@ -167,7 +169,7 @@ fn cores_in_force<'a>(default: Default, own: &'a [u8], shipped: &'a [u8]) {
 fn in_force<'a>(words: &'a [u8], default: Default, own: &'a [u8], shipped: &'a [u8]) {
     say(words);
     let part = force::table_in_force(default, own, shipped);
-    io::print_decimal(STDOUT_FILENO, part.len() as u64);
+    io::print_decimal(STDOUT, part.len() as u64);
     say(b" bytes of task fields, ");
     match force::which_in_force(default, own, shipped) {
         InForce::Own => say(b"the machine's own\n"),

@@ -6,8 +6,12 @@ ghost use Rattle.std.specs.Prelude.{◌≡◌, take};
 ghost use Rattle.files.specs.Files.{plan_read};
 
 use files::{Default, ReadPlan, ReadTable, Reader};
-use libc::{STDERR_FILENO, STDIN_FILENO, STDOUT_FILENO};
+use std::io::Read;
 use tasks::Refusal;
+
+// The files of standard output and of standard error.
+const STDOUT: i32 = 1;
+const STDERR: i32 = 2;
 
 // A reader after one more part, and whether the input may go on.
 #[derive(Clone, Copy)]
@@ -17,10 +21,9 @@ struct Fed {
 }
 
 // Reads one part of the input, of up to 4,096 bytes.
-fn feed_some(reader: Reader) -> Fed {
+fn feed_some<R: Read>(input: &mut R, reader: Reader) -> Fed {
     let mut part = io::buffer();
-    let got = libc::read(STDIN_FILENO, &mut part);
-    let n = io::count(got, &part);
+    let n = input.read(&mut part).unwrap_or(0);
     Fed {
         reader: files::feed(reader, &part[..n]),
         more: n > 0,
@@ -29,24 +32,25 @@ fn feed_some(reader: Reader) -> Fed {
 
 // Reads the input to its end. A proved loop has to end, and nothing says that an input does:
 // the loop counts its turns down, from a number that no run uses up.
-fn feed_all(reader: Reader) -> Reader {
+fn feed_all(rt: &impl Input, reader: Reader) -> Reader {
+    let mut input = rt.reader();
     let mut fed = Fed { reader, more: true };
     let mut turns = u64::MAX;
     while turns > 0 && fed.more {
-        fed = feed_some(fed.reader);
+        fed = feed_some(&mut input, fed.reader);
         turns -= 1;
     }
     fed.reader
 }
 
 // The table file on standard input, read with this default.
-pub fn read_table(default: Default) -> ReadTable {
-    files::close_table(feed_all(files::start_table(default)))
+pub fn read_table(rt: &impl Input, default: Default) -> ReadTable {
+    files::close_table(feed_all(rt, files::start_table(default)))
 }
 
 // The plan file on standard input, read with this default.
-pub fn read_plan(default: Default) -> ReadPlan {
-    files::close_plan(feed_all(files::start_plan(default)))
+pub fn read_plan(rt: &impl Input, default: Default) -> ReadPlan {
+    files::close_plan(feed_all(rt, files::start_plan(default)))
 }
 
 // The first n bytes of a buffer, or all that it has, read as a plan file with this default.
@@ -78,15 +82,15 @@ fn put_refusal(file: i32, refusal: Refusal) {
 
 // Prints the first n bytes of a buffer, or all that it has.
 pub fn print(bytes: &[u8], n: usize) {
-    put(STDOUT_FILENO, bytes, n);
+    put(STDOUT, bytes, n);
 }
 
 // Prints a refusal's line.
 pub fn print_refusal(refusal: Refusal) {
-    put_refusal(STDOUT_FILENO, refusal);
+    put_refusal(STDOUT, refusal);
 }
 
 // Prints a refusal's line to standard error.
 pub fn complain(refusal: Refusal) {
-    put_refusal(STDERR_FILENO, refusal);
+    put_refusal(STDERR, refusal);
 }

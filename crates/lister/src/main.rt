@@ -4,8 +4,8 @@
 use files::Default;
 
 // The lent bytes have room for every listing.
-fn main() {
+fn main(rt: HostRuntime) {
     let mut text = [0u8; 16384];
-    let n = planlines::lister(&mut text, 0, console::read_table(Default::Eight));
+    let n = planlines::lister(&mut text, 0, console::read_table(&rt, Default::Eight));
     console::print(&text, n);
 }

@@ -4,9 +4,9 @@
 ghost use Rattle.std.specs.Prelude.{◌≤◌, ◌<◌, length};
 
 use files::Default;
-use libc::STDIN_FILENO;
 use plans::Plan;
 use playback::Player;
+use std::io::Read;
 use tasks::{Answer, Place, Refusal};
 
 // A player after one more part of the input, and whether the input may go on.
@@ -16,16 +16,15 @@ struct Fed {
     more: bool,
 }
 
-// Reads one part of the input into a buffer, and says how many bytes it has.
-fn read_some(bytes: &mut [u8]) -> usize
+// Reads one part of the input into a buffer, and says how many bytes it has. A read that fails counts as the end of the input.
+fn read_some<R: Read>(input: &mut R, bytes: &mut [u8]) -> usize
     ensures { result ≤ length bytes.new }
 {
-    let got = libc::read(STDIN_FILENO, bytes);
-    io::count(got, bytes)
+    input.read(bytes).unwrap_or(0)
 }
 
 // Reads one part of the input, as far as the player's bytes have room.
-fn feed_some(mut player: Player) -> Fed {
+fn feed_some<R: Read>(input: &mut R, mut player: Player) -> Fed {
     let mut bytes = player.bytes;
     let held = player.count;
     if 4096 <= held {
@@ -34,7 +33,7 @@ fn feed_some(mut player: Player) -> Fed {
             more: false,
         };
     }
-    let n = read_some(&mut bytes[held..]);
+    let n = read_some(input, &mut bytes[held..]);
     player.bytes = bytes;
     player.count = held + n;
     Fed {
@@ -45,13 +44,13 @@ fn feed_some(mut player: Player) -> Fed {
 
 // All ticks of the input, from its byte `start` on, and the totals: a part of the input is read, and as much is played as there is room for, until nothing is read and nothing is played.
 // A proved loop has to end, and nothing says that an input does: the loop counts its turns down, from a number that no run uses up.
-fn replay(plan: Plan, start: usize) {
+fn replay<R: Read>(input: &mut R, plan: Plan, start: usize) {
     let mut lines = [0u8; 16384];
     let mut player = playback::start(start);
     let mut more = true;
     let mut turns = u64::MAX;
     while turns > 0 && more {
-        let fed = feed_some(player);
+        let fed = feed_some(input, player);
         let played = playback::play(&mut lines, fed.player, plan);
         console::print(&lines, played.length);
         player = played.player;
@@ -73,18 +72,19 @@ fn wide(x: u8) -> usize
 }
 
 // Reads into a buffer as many bytes as are asked for, and says whether they were all there.
-fn fill(bytes: &mut [u8], n: usize) -> bool {
+fn fill<R: Read>(input: &mut R, bytes: &mut [u8], n: usize) -> bool {
     if bytes.len() < n {
         return false;
     }
-    io::read_full(STDIN_FILENO, &mut bytes[..n]) == n
+    input.read_exact(&mut bytes[..n]).is_ok()
 }
 
-fn main() {
+fn main(rt: HostRuntime) {
+    let mut input = rt.reader();
     let mut file = io::large_buffer();
-    let is_told = fill(&mut file, 2);
+    let is_told = fill(&mut input, &mut file, 2);
     let length = wide(file[0]) * 256 + wide(file[1]);
-    let is_whole = fill(&mut file, length);
+    let is_whole = fill(&mut input, &mut file, length);
     if !is_told | !is_whole {
         console::print_refusal(Refusal::CutShort(Place(0)));
         return;
@@ -92,7 +92,7 @@ fn main() {
     let read = console::plan_in(Default::Eight, &file, length);
     let answer = read.answer;
     match answer {
-        Answer::Accepted => replay(read.plan, 2 + length),
+        Answer::Accepted => replay(&mut input, read.plan, 2 + length),
         Answer::Refused(refusal) => console::print_refusal(refusal),
     }
 }

@@ -4,8 +4,8 @@
 use files::Default;
 
 // The lent bytes have room for all lines.
-fn main() {
+fn main(rt: HostRuntime) {
     let mut text = [0u8; 16384];
-    let n = ticklines::runner(&mut text, 0, console::read_plan(Default::Eight));
+    let n = ticklines::runner(&mut text, 0, console::read_plan(&rt, Default::Eight));
     console::print(&text, n);
 }
