@@ -1,0 +1,6 @@
+use Rattle.files.specs.Files.{table_read}
+use Rattle.files.proofs.read_table.Goals as goal
+
+pub returns : goal.returns
+unfolding table_read
+returns c = simp (c.close_table.ensures, c.feed.ensures, c.start_table.ensures)
