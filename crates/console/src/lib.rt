@@ -11,6 +11,7 @@ use tasks::Refusal;
 
 // The files of standard output and of standard error.
 const STDOUT: i32 = 1;
+
 const STDERR: i32 = 2;
 
 // A reader after one more part, and whether the input may go on.
