@@ -1,7 +1,6 @@
 use native.Mathlib.Omega.{arith}
 use mathlib.Core.Path.{sym}
 use native.Mathlib.Nat.{div-le_self, le_trans}
-use Rattle.plans.proofs.Interference.{some_period}
 use Rattle.bounds.proofs.Sums.{local_small}
 use Rattle.plans.specs.Interference.{periods}
 use Rattle.planner.specs.Limit.{allowance}

@@ -1,8 +1,7 @@
 use borrow.Author.Rules.{rules}
 use native.Mathlib.Omega.{arith}
-use Prim.Native.Nat.{◌≤◌, ◌-◌}
 use mathlib.Core.Path.{◌≡◌, ◌∙◌}
-use Rattle.planner.proofs.Offered.{begun_with, begun_none, begun_turn, begun_all}
+use Rattle.planner.proofs.Offered.{begun_none, begun_turn, begun_all}
 use Rattle.planner.proofs.begin.Goals as goal
 
 pub loop-i-init : goal.loop-i-init

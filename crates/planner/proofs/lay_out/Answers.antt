@@ -1,12 +1,12 @@
 use borrow.Author.Rules.{rules}
 use native.Mathlib.Omega.{arith}
-use Prim.Native.Nat.{ℕ, ◌+◌, ◌≤◌, ◌-◌}
+use Prim.Native.Nat.{ℕ, ◌+◌, ◌-◌}
 use mathlib.Core.Path.{◌≡◌, refl, sym, ap, ◌∙◌}
 use mathlib.Core.Bool.{true, false}
 use lib.ListN.{replicate}
 use borrow.Author.Tests.{not-true, not-false}
 use Rattle.tasks.proofs.Tables.{accepted_good}
-use Rattle.planner.specs.Layout.{start, laid, lay_first, outcome}
+use Rattle.planner.specs.Layout.{start, lay_first, outcome}
 use Rattle.planner.specs.Whole.{draft}
 use Rattle.tasks.specs.declared.Table.{Table}
 use Rattle.plans.specs.declared.Plan.{Plan}

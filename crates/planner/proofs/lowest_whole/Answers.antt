@@ -1,16 +1,14 @@
 use borrow.Author.Rules.{rules}
 use native.Mathlib.Omega.{arith}
 use native.Mathlib.Nat.{le_refl}
-use Prim.Native.Nat.{ℕ, ◌≤◌, ◌<◌, ◌-◌}
 use mathlib.Core.Path.{◌≡◌, refl, sym, ap, ◌∙◌, subst}
-use mathlib.Core.Bool.{Bool, false}
-use lib.ListN.{length, length-map}
+use mathlib.Core.Bool.{Bool}
+use lib.ListN.{length}
 use borrow.Author.Count.{below_more}
 use borrow.Author.Tests.{lt-ltb, le-ltb}
 use Rattle.tasks.specs.Below.{all}
 use Rattle.tasks.proofs.Below.{any_none, first_is, first_none}
 use Rattle.bounds.specs.Leaves.{Moderate}
-use Rattle.plans.specs.declared.Piece.{Piece}
 use Rattle.plans.specs.declared.Plan.{Plan}
 use Rattle.planner.specs.Asked.{OwnDeadlines, taker}
 use Rattle.planner.specs.Whole.{put, draft, whole_piece, keeps_bound, takes_whole}

@@ -1,6 +1,5 @@
 use mathlib.Core.Path.{sym, ◌∙◌}
 use Rattle.planner.proofs.Placing.{placed_whole, placed_shared}
-use borrow.Author.Rules.{rules}
 use Rattle.planner.proofs.place.Goals as goal
 
 pub returns-in-Core : goal.returns-in-Core

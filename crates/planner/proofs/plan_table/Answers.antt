@@ -1,6 +1,5 @@
 use mathlib.Core.Path.{sym, ◌∙◌}
 use Rattle.planner.proofs.Placing.{table_refused, table_laid}
-use borrow.Author.Rules.{rules}
 use Rattle.planner.proofs.plan_table.Goals as goal
 
 pub returns-in-Refused : goal.returns-in-Refused

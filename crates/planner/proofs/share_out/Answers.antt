@@ -1,15 +1,12 @@
 use borrow.Author.Rules.{rules}
 use native.Mathlib.Omega.{arith}
-use Prim.Native.Nat.{ℕ, ◌-◌, ◌≤◌}
+use Prim.Native.Nat.{ℕ}
 use mathlib.Core.Path.{◌≡◌, refl, sym, ◌∙◌}
-use mathlib.Core.Bool.{false}
 use mathlib.Core.Logic.{inl, inr}
-use lib.ListN.{length, length-map}
-use Rattle.plans.specs.Pieces.{task_of}
 use Rattle.plans.specs.declared.Plan.{Plan}
 use Rattle.planner.specs.Limit.{limit_of}
 use Rattle.planner.proofs.Allowed.{limit_other, limit_here, limit_nothing, limit_start}
-use Rattle.planner.proofs.Searching.{Sharing, begun, run_out, skip, part, fill, fit}
+use Rattle.planner.proofs.Searching.{run_out, skip, part, fill, fit}
 use Rattle.planner.proofs.share_out.Goals as goal
 
 -- past the last piece the least so far is the core's limit

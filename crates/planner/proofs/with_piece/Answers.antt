@@ -1,6 +1,5 @@
 use mathlib.Core.Path.{refl}
 use Rattle.planner.specs.Whole.{put}
-use borrow.Author.Rules.{rules}
 use Rattle.planner.proofs.with_piece.Goals as goal
 
 pub returns : goal.returns
