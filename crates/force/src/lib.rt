@@ -82,5 +82,7 @@ pub fn table_in_force<'a: 'r, 'b: 'r, 'r>(
 ) -> &'r [u8]
     ensures { IsInForce (in_force default own.now shipped.now) result own.entry shipped.entry }
 {
+    let own: &'r [u8] = own;
+    let shipped: &'r [u8] = shipped;
     part_in_force(default, own, shipped)
 }
