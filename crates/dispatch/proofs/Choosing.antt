@@ -49,7 +49,8 @@ module _ (p : Plan) (s : State) where
   unfolding highest
   better_turn k best held st n over wins q f h o w t =
       let g : best.runner ≡ highest p s (piece_at p s k).core.0 k = ap (λ (c : CoreRun). c.runner) f ∙ ap (λ (z : Stand). highest p s z.piece.core.0 k) q in
-      rw (add-one, ← t, o, w, q, wins_core k best.runner held (sym g) h) (go (stands_on p s (piece_at p s k).core.0 k && beats p s k (highest p s (piece_at p s k).core.0 k)) g)
+      let made : cond wins (record { runner = Runs (task_no k) }) best ≡ found p s (suc k) (piece_at p s k).core.0 = rw (← t, o, w, q, wins_core k best.runner held (sym g) h) (go (stands_on p s (piece_at p s k).core.0 k && beats p s k (highest p s (piece_at p s k).core.0 k)) g) in
+      rw add-one (made ∙ ap (λ (z : Stand). found p s (suc k) z.piece.core.0) (sym q))
     where
       go : (b : Bool) → best.runner ≡ highest p s (piece_at p s k).core.0 k → cond b (record { runner = Runs (task_no k) }) best ≡ record { runner = cond b (Runs (task_no k)) (highest p s (piece_at p s k).core.0 k) }
       go true g = refl
