@@ -1,4 +1,3 @@
-pub mod Walk
 pub mod Settled
 pub mod Begun
 pub mod SameBounds
