@@ -21,7 +21,6 @@ use Rattle.tasks.specs.Tables.{no_task, checked_table}
 use Rattle.tasks.specs.declared.Answer.TheVariants.{Accepted}
 use Rattle.tasks.specs.declared.Table.{Table}
 use lib.ListN.{replicate, length-replicate, set, get_or-replicate}
-use mathlib.Core.Option.{none}
 use mathlib.Core.Path.{◌≡◌, refl}
 use native.Mathlib.Decide.{ℕ_discrete}
 use native.Mathlib.Omega.{arith}
