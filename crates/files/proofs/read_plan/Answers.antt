@@ -3,4 +3,4 @@ use Rattle.files.proofs.read_plan.Goals as goal
 
 pub returns : goal.returns
 unfolding plan_read
-returns c = simp (c.close_plan.ensures, c.feed.ensures, c.start_plan.ensures)
+returns c = cc

@@ -3,4 +3,4 @@ use Rattle.files.proofs.read_table.Goals as goal
 
 pub returns : goal.returns
 unfolding table_read
-returns c = simp (c.close_table.ensures, c.feed.ensures, c.start_table.ensures)
+returns c = cc
