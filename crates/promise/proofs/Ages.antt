@@ -56,6 +56,9 @@ finished_old : (p : ℕ) (o : Option ℕ) (b : Bool) (t : Stage) → AsOld p o t
 unfolding model.finish
 finished_old p o false t v = v
 finished_old p none true never v = v
+finished_old p none true (active a k r) v = elim v [ ]
+finished_old p none true (ended a) v = elim v [ ]
+finished_old p (some x) true never v = elim v [ ]
 finished_old p (some x) true (active a k r) v = v
 finished_old p (some x) true (ended a) v = v
 
@@ -63,6 +66,9 @@ finished_old p (some x) true (ended a) v = v
 run_old : (M : Model) (i : ℕ) (o : Option ℕ) (b : Bool) (t : Stage) → AsOld (M.period i) o t → AsOld (M.period i) (more o 1) (model.run M i b t)
 unfolding model.run model.older model.onward
 run_old M i none b never v = v
+run_old M i none b (active a k r) v = elim v [ ]
+run_old M i none b (ended a) v = elim v [ ]
+run_old M i (some x) b never v = elim v [ ]
 run_old M i (some x) b (ended a) v = omega (arith, v)
 run_old M i (some x) false (active a k r) v = omega (arith, v)
 run_old M i (some x) true (active a k r) v = go (ltb (suc r) (M.cost k)) (M.last k)
