@@ -1,4 +1,1 @@
-pub mod Walk
-pub mod Calls
-pub mod Keeping
 pub mod Settled
