@@ -6,6 +6,7 @@ ghost use Rattle.lending.specs.Lent.{bound_lent};
 
 use bounds::Bounding;
 use plans::{Kind, Margin, Piece};
+use std::io;
 use tasks::{CoreNo, Refusal, Table, Task, TaskNo};
 
 // The bound of piece q, the four pieces being lent.
@@ -29,35 +30,29 @@ fn wide(x: u32) -> u64 {
 }
 
 // A line with a bound and its margin, or with the refusal's number where it is 8.
-fn print(answer: Bounding) {
+fn print(rt: &impl Print, answer: Bounding) -> io::Result<()> {
     match answer {
         Bounding::Known { bound, margin } => {
-            io::write_all(1, b"bound ");
-            io::print_decimal(1, wide(bound));
+            let bound = wide(bound);
             match margin {
                 Margin::Left(rest) => {
-                    io::write_all(1, b" left ");
-                    io::print_decimal(1, wide(rest));
+                    let rest = wide(rest);
+                    println!(rt; "bound {bound} left {rest}")
                 }
                 Margin::Over(more) => {
-                    io::write_all(1, b" over ");
-                    io::print_decimal(1, wide(more));
+                    let more = wide(more);
+                    println!(rt; "bound {bound} over {more}")
                 }
             }
         }
         Bounding::Refused(refusal) => match refusal {
-            Refusal::NoPlanShape => {
-                io::write_all(1, b"refused 8");
-            }
-            _ => {
-                io::write_all(1, b"refused");
-            }
+            Refusal::NoPlanShape => println!(rt; "refused 8"),
+            _ => println!(rt; "refused"),
         },
     }
-    io::write_all(1, b"\n");
 }
 
-fn main() {
+fn main(rt: HostRuntime) -> io::Result<()> {
     let task = Task {
         cost: 6,
         deadline: 10,
@@ -73,12 +68,12 @@ fn main() {
     pieces[1] = piece(1, 1, Kind::Whole, 6);
     pieces[2] = piece(2, 0, Kind::Share, 4);
     pieces[3] = piece(2, 1, Kind::Share, 2);
-    print(bound_over(table, pieces, 0));
-    print(bound_over(table, pieces, 1));
-    print(bound_over(table, pieces, 2));
-    print(bound_over(table, pieces, 3));
-    print(bound_over(table, pieces, 4));
+    print(&rt, bound_over(table, pieces, 0))?;
+    print(&rt, bound_over(table, pieces, 1))?;
+    print(&rt, bound_over(table, pieces, 2))?;
+    print(&rt, bound_over(table, pieces, 3))?;
+    print(&rt, bound_over(table, pieces, 4))?;
     // Shares that do not add up to the cost.
     pieces[3] = piece(2, 1, Kind::Share, 3);
-    print(bound_over(table, pieces, 0));
+    print(&rt, bound_over(table, pieces, 0))
 }
