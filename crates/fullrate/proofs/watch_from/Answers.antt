@@ -1,5 +1,5 @@
 use borrow.Author.Rules.{rules}
-use Rattle.board.proofs.Keeping.{kept_start, kept_turn}
+use Rattle.board.proofs.Turns.{kept_start, kept_turn}
 use Rattle.fullrate.specs.Watching.{none_finished, all_released, saw}
 use Rattle.fullrate.proofs.watch_from.Goals as goal
 

@@ -1,5 +1,5 @@
 use Prim.Native.Nat.{◌≤◌, ◌-◌}
-use Rattle.board.proofs.Keeping.{Kept}
+use Rattle.board.proofs.Turns.{Kept}
 use Rattle.fullrate.specs.Watching.{none_finished, all_released, saw}
 use Rattle.fullrate.proofs.watch_from.Given as goal
 
