@@ -12,7 +12,7 @@ ghost use Rattle.jobs.specs.declared.Runner.TheVariants.{Runs};
 ghost use Rattle.dispatch.specs.States.{fresh_state, well_made};
 ghost use Rattle.dispatch.specs.Tick.{refused as refusing, tick as ticked};
 ghost use Rattle.dispatch.specs.Advance.{next_state, advance as advancing};
-ghost use Rattle.dispatch.specs.Choice.{no_stand, stand_of, StandsOf, found as foundBest};
+ghost use Rattle.dispatch.specs.Choice.{no_stand, stand_of, StandsOf, found as found_best};
 ghost use Rattle.dispatch.specs.Rules.{total as totalled, ended_job, finished_job, finish, mark_late, first_piece, released_job, release, age as aged, chosen, ran_job, run, aged_job, count_preempted};
 ghost use Rattle.dispatch.specs.Sound.{Sound, AtPieces, Filled};
 ghost use Rattle.dispatch.specs.Refusing.{not_run, lowest_no, judged_sets};
@@ -425,7 +425,7 @@ fn choose(plan: Plan, stands: [Stand; 64]) -> [CoreRun; 16]
 // The best on a core, one more job there being looked at: `found` is the best so far, `no` its number and `held` where its job stands.
 fn better(mut found: CoreRun, no: usize, held: Stand, stand: Stand, task: TaskNo) -> CoreRun
     requires { eqb no 256 ≡ is_idle found.runner }
-    ensures { (p : Plan) (s : State) → stand ≡ stand_of p s task.0 → found ≡ foundBest p s task.0 stand.piece.core.0 → ((t : TaskNo) → found.runner ≡ Runs t → held ≡ stand_of p s t.0) → result ≡ foundBest p s (task.0 + 1) stand.piece.core.0 }
+    ensures { (p : Plan) (s : State) → stand ≡ stand_of p s task.0 → found ≡ found_best p s task.0 stand.piece.core.0 → ((t : TaskNo) → found.runner ≡ Runs t → held ≡ stand_of p s t.0) → result ≡ found_best p s (task.0 + 1) stand.piece.core.0 }
 {
     let above = plans::outranks(stand.piece, stand.deadline, held.piece, held.deadline);
     if stand.active & ((no == 256) | above) {

@@ -10,7 +10,7 @@ use borrow.Author.Tests.{leb-true, ne_eqb}
 use Rattle.tasks.proofs.Padded.{padded_in, padded_is, padded_more}
 use Rattle.tasks.proofs.Tables.{GoodTable, accepted_good, good_accepted, values_fit_lem, counts_fit}
 use Rattle.tasks.specs.Below.{padded, tabulate, row}
-use Rattle.tasks.specs.Tables.{no_task, cores_fit, values_fit, checked_tasks, checked_table, SameTable, CleanTable, task_of as taskOfTable}
+use Rattle.tasks.specs.Tables.{no_task, cores_fit, values_fit, checked_tasks, checked_table, SameTable, CleanTable, task_of as task_of_table}
 use Rattle.tasks.specs.declared.Answer.TheVariants.{Accepted}
 use Rattle.tasks.specs.declared.Task.{Task}
 use Rattle.tasks.specs.declared.Table.{Table}
@@ -74,7 +74,7 @@ module _ (d : Default) (o : Bool) (m : ℕ) (ts : ℕ → Task) (pc : ℕ → Pi
 
 -- the same table with 0 past its count
 abbrev pub clean_table : Table → Table
-clean_table t = record { cores = t.cores; count = t.count; tasks = padded 64 t.count no_task (taskOfTable t) }
+clean_table t = record { cores = t.cores; count = t.count; tasks = padded 64 t.count no_task (task_of_table t) }
 
 -- a table's reader behind a good table hands it out
 table_closes : (q m n : ℕ) (ts : ℕ → Task) (pc : ℕ → Piece) → GoodTable m n ts → table_closed (reader (field_at false q q false) (plan_of m n ts 0 pc)) ≡ record { answer = Accepted; table = record { cores = m; count = n; tasks = padded 64 n no_task ts } }
@@ -87,14 +87,14 @@ table_closes q m n ts pc g =
 pub table_reads_back : (d : Default) (t : Table) → checked_table t ≡ Accepted → table_read d (table_bytes t) ≡ record { answer = Accepted; table = clean_table t }
 unfolding table_read table_bytes
 table_reads_back d t h =
-    let g : GoodTable t.cores t.count (taskOfTable t) = accepted_good _ _ _ h in
-    ap table_closed (tasks_read d false t.cores (taskOfTable t) (λ j. no_piece) t.count g) ∙ table_closes _ _ _ _ _ g
+    let g : GoodTable t.cores t.count (task_of_table t) = accepted_good _ _ _ h in
+    ap table_closed (tasks_read d false t.cores (task_of_table t) (λ j. no_piece) t.count g) ∙ table_closes _ _ _ _ _ g
 
 pub clean_same : (t : Table) → t.count ≤ 64 → SameTable t (clean_table t)
-clean_same t h = record { cores = refl; count = refl; tasks = λ i l. sym (padded_in 64 no_task t.count (taskOfTable t) i l (omega arith)) }
+clean_same t h = record { cores = refl; count = refl; tasks = λ i l. sym (padded_in 64 no_task t.count (task_of_table t) i l (omega arith)) }
 
 pub clean_is : (t : Table) → CleanTable t → length t.tasks ≡ 64 → clean_table t ≡ t
-clean_is t k e = ap (λ (ts : List Task). record { cores = t.cores; count = t.count; tasks = ts }) (sym (padded_is 64 no_task t.count (taskOfTable t) t.tasks e (λ i l b. refl) (λ i l b. k.tasks i l)))
+clean_is t k e = ap (λ (ts : List Task). record { cores = t.cores; count = t.count; tasks = ts }) (sym (padded_is 64 no_task t.count (task_of_table t) t.tasks e (λ i l b. refl) (λ i l b. k.tasks i l)))
 
 -- ---- plans
 

@@ -4,7 +4,7 @@ use mathlib.Core.List.{List}
 use Prim.Native.Nat.{ℕ, ◌<◌}
 use Rattle.tasks.proofs.Below.{row_same}
 use Rattle.tasks.proofs.SameTables.{table_same}
-use Rattle.tasks.specs.Tables.{SameTable, task_of as taskOfTable}
+use Rattle.tasks.specs.Tables.{SameTable, task_of as task_of_table}
 use Rattle.tasks.specs.declared.Table.{Table}
 use Rattle.tasks.specs.declared.Task.{Task}
 use Rattle.plans.proofs.SamePlans.{checked_same}
@@ -22,7 +22,7 @@ module _ (a b : Table) (same : SameTable a b) where
   -- tables that are the same have the same file
   pub table_bytes_same : table_bytes a ≡ table_bytes b
   unfolding table_bytes
-  table_bytes_same = rw (tasks_bytes_same a.cores a.count (taskOfTable a) (taskOfTable b) same.tasks, same.cores, same.count)
+  table_bytes_same = rw (tasks_bytes_same a.cores a.count (task_of_table a) (task_of_table b) same.tasks, same.cores, same.count)
 
   -- they are written with the same answer
   pub table_written_same : (buffer : List ℕ) → table_written a buffer ≡ table_written b buffer

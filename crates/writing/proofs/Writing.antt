@@ -12,7 +12,7 @@ use borrow.Author.Tests.{le-leb, lt-leb, leb-true}
 use Rattle.tasks.specs.Below.{row}
 use Rattle.tasks.proofs.Tables.{GoodTable, accepted_good}
 use Rattle.tasks.specs.Tables.{checked_table}
-use Rattle.tasks.specs.Tables.{task_of as taskOfTable}
+use Rattle.tasks.specs.Tables.{task_of as task_of_table}
 use Rattle.tasks.specs.declared.Answer.{Answer}
 use Rattle.tasks.specs.declared.Answer.TheVariants.{Accepted, Refused}
 use Rattle.tasks.specs.declared.Refusal.{Refusal}
@@ -133,7 +133,7 @@ plan_written_lem p e xs start r k q u h =
 
 -- what an accepted record's counts are at most
 pub table_small : (t : Table) (a : Answer) → a ≡ checked_table t → a ≡ Accepted → (t.cores ≤ 16) × (t.count ≤ 64)
-table_small t a h e = let g : GoodTable t.cores t.count (taskOfTable t) = accepted_good _ _ _ (sym h ∙ e) in (g.cores.1, g.tasks.1)
+table_small t a h e = let g : GoodTable t.cores t.count (task_of_table t) = accepted_good _ _ _ (sym h ∙ e) in (g.cores.1, g.tasks.1)
 
 pub plan_small : (p : Plan) (a : Answer) → a ≡ checked_plan p → a ≡ Accepted → (p.cores ≤ 16) × (p.count ≤ 64) × (p.placed ≤ 128)
 plan_small p a h e = let g : GoodPlan p = accepted_plan p (sym h ∙ e) in (g.table.cores.1, g.table.tasks.1, leb-true _ _ (tests _ _ _ _ _ g.shaped).1)

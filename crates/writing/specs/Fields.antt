@@ -1,7 +1,7 @@
 -- Files are fields in a row: tag (one byte), length (two bytes), body. All numbers are high byte first.
 use Rattle.std.specs.Prelude.{List, [], ◌∷◌, ◌++◌, ℕ, ◌/◌, ◌%◌}
 use Rattle.tasks.specs.Below.{row}
-use Rattle.tasks.specs.Tables.{task_of as taskOfTable}
+use Rattle.tasks.specs.Tables.{task_of as task_of_table}
 use Rattle.tasks.specs.declared.Task.{Task}
 use Rattle.tasks.specs.declared.Table.{Table}
 use Rattle.plans.specs.Pieces.{task_of, piece_of}
@@ -37,7 +37,7 @@ tasks_bytes m n ts = core_field m ++ row n (λ i. task_field (ts i))
 
 -- the file of a table
 unfoldable pub table_bytes : Table → List ℕ
-table_bytes t = tasks_bytes t.cores t.count (taskOfTable t)
+table_bytes t = tasks_bytes t.cores t.count (task_of_table t)
 
 -- the file of a plan
 unfoldable pub plan_bytes : Plan → List ℕ
