@@ -1,3 +1,4 @@
+pub mod Walk
 pub mod Settled
 pub mod Begun
 pub mod SameBounds
