@@ -19,7 +19,7 @@ def program(name):
 def listed():
     """The names of the crates in crates.txt."""
     lines = (ROOT / "crates.txt").read_text().splitlines()
-    return {line.split(":")[0].strip() for line in lines if ":" in line and not line.startswith("#")}
+    return {line.split(":")[0].split()[0] for line in lines if ":" in line and not line.startswith("#")}
 
 
 def built(name):
