@@ -1,7 +1,7 @@
 -- The contract of `step` settles its result and the lent record; on a refusal the record is as it was and nothing runs.
 use mathlib.Core.Path.{◌≡◌, sym, ◌∙◌, ap}
 use lib.ListN.{replicate}
-use Rattle.tasks.specs.declared.Answer.TheVariants.{Refused}
+use Rattle.tasks.specs.Answers.{Refused}
 use Rattle.tasks.specs.declared.Refusal.{Refusal}
 use Rattle.tasks.proofs.Settling.{settled}
 use Rattle.plans.specs.declared.Plan.{Plan}

@@ -5,32 +5,17 @@ ghost use Rattle.std.specs.Prelude.{◌≡◌};
 ghost use Rattle.dispatch.specs.Tick.{tick as ticked};
 ghost use Rattle.board.specs.Ran.{ran_of};
 
-use dispatch::{State, Ticked};
-use jobs::{CoreRun, Tasks};
+use dispatch::State;
+use jobs::Tasks;
 use plans::Plan;
-use tasks::Answer;
+use tasks::{Refusal, TaskNo};
 
 // What a tick shows: its answer, and what runs on each core in it.
+// Fields and no `Result`: what a refused tick runs is told too, as the edit `runs_from_the_record` asks.
 #[derive(Clone, Copy)]
 pub struct Ran {
-    pub answer: Answer,
-    pub runs: [CoreRun; 16],
-}
-
-// The state that a tick comes to.
-fn next_of(ticked: Ticked) -> State
-    ensures { result ≡ ticked.state }
-{
-    ticked.state
-}
-
-// What a tick shows.
-fn ran_of(ticked: Ticked) -> Ran
-    ensures { result ≡ ran_of ticked }
-{
-    let answer = ticked.answer;
-    let runs = ticked.runs;
-    Ran { answer, runs }
+    pub answer: Result<(), Refusal>,
+    pub runs: [Option<TaskNo>; 16],
 }
 
 // One tick of the record where it stands, for any plan, any record and any two sets. On a refusal the record is as it was.
@@ -39,6 +24,11 @@ pub fn step(state: &mut State, plan: Plan, finished: Tasks, released: Tasks) -> 
 {
     let here = *state;
     let ticked = dispatch::tick(plan, here, finished, released);
-    *state = next_of(ticked);
-    ran_of(ticked)
+    let next = ticked.state;
+    let runs = ticked.runs;
+    *state = next;
+    Ran {
+        answer: ticked.answer,
+        runs,
+    }
 }

@@ -4,15 +4,14 @@ use Prim.Native.Nat.{ℕ, ◌+◌, ◌≤◌, ◌<◌}
 use native.Mathlib.Omega.{arith}
 use borrow.Author.Tests.{lt-ltb, le-ltb, leb-true}
 use Rattle.tasks.proofs.Tables.{Ranges}
-use Rattle.tasks.specs.declared.Answer.TheVariants.{Accepted, Refused}
+use Rattle.tasks.specs.Answers.{Accepted, Refused}
 use Rattle.tasks.specs.declared.Refusal.{Refusal}
 use Rattle.tasks.specs.declared.Refusal.TheVariants.{NoPlanShape}
 use Rattle.tasks.specs.declared.Task.{Task}
 use Rattle.plans.proofs.Shaped.{Fits}
-use Rattle.bounds.specs.Asking.{bound_asked}
+use Rattle.std.specs.Prelude.{Ok, Err}
+use Rattle.bounds.specs.Asking.{known, bound_asked}
 use Rattle.bounds.specs.Bound.{local_deadline, bound}
-use Rattle.plans.specs.Margins.{margin}
-use Rattle.bounds.specs.declared.Bounding.TheVariants as bounding
 use Rattle.bounds.specs.Leaves.{Moderate}
 use Rattle.plans.specs.Pieces.{task_of, piece_of, earlier}
 use Rattle.plans.specs.Shape.{checked_plan}
@@ -69,15 +68,15 @@ plan_moderate p g = record {
 
 -- the bound asked from outside, by what the plan's check says and where the piece stands
 module _ (p : Plan) (q : ℕ) where
-  pub asked_refused : (r : Refusal) → checked_plan p ≡ Refused r → bound_asked p q ≡ bounding.Refused r
+  pub asked_refused : (r : Refusal) → checked_plan p ≡ Refused r → bound_asked p q ≡ Err r
   unfolding bound_asked
   asked_refused r h = rw h
 
   module _ (accepted : checked_plan p ≡ Accepted) where
-    pub asked_past : p.placed ≤ q → bound_asked p q ≡ bounding.Refused NoPlanShape
+    pub asked_past : p.placed ≤ q → bound_asked p q ≡ Err NoPlanShape
     unfolding bound_asked
     asked_past h = rw (accepted, le-ltb q p.placed h)
 
-    pub asked_known : q < p.placed → let e = bound (task_of p) (piece_of p) p.placed q in bound_asked p q ≡ bounding.Known e (margin (local_deadline (task_of p) (piece_of p) q) e)
+    pub asked_known : q < p.placed → bound_asked p q ≡ Ok (known (local_deadline (task_of p) (piece_of p) q) (bound (task_of p) (piece_of p) p.placed q))
     unfolding bound_asked
     asked_known h = rw (accepted, lt-ltb q p.placed h)

@@ -1,7 +1,7 @@
 -- Loads, one piece more at a time, and that costs and loads stay small where the plan's numbers are a good table's.
-use mathlib.Core.Path.{◌≡◌, refl}
+use mathlib.Core.Path.{◌≡◌, refl, ◌∙◌}
 use mathlib.Core.Bool.{Bool, true, false, cond}
-use Prim.Native.Nat.{ℕ, ◌+◌, ◌*◌, ◌≤◌, ◌<◌}
+use Prim.Native.Nat.{ℕ, ◌+◌, ◌-◌, ◌*◌, ◌≤◌, ◌<◌}
 use native.Mathlib.Nat.{le_trans}
 use native.Mathlib.Omega.{arith}
 use lib.Dec.{eqb}
@@ -12,7 +12,7 @@ use Rattle.plans.proofs.Interference.{within_length}
 use Rattle.bounds.specs.Bound.{local_deadline, load}
 use Rattle.plans.specs.Interference.{interference}
 use Rattle.bounds.specs.Leaves.{Moderate}
-use Rattle.plans.specs.Pieces.{task_of, piece_of, costs}
+use Rattle.plans.specs.Pieces.{task_of, piece_of, costs, earlier}
 use Rattle.plans.specs.Rank.{above}
 use Rattle.plans.specs.declared.Piece.{Piece}
 use Rattle.plans.specs.declared.Plan.{Plan}
@@ -30,6 +30,11 @@ pub load_turn : (ts : ℕ → Task) (pc : ℕ → Piece) (b : Piece) (L j acc r 
     → r ≡ cond (above ts (pc j) b) (interference (pc j).cost (ts (pc j).task.0).period L) 0 → acc + r ≡ load ts pc (j + 1) b L
 unfolding load
 load_turn ts pc b L j acc r = sum_turn j _ acc r
+
+-- a deadline less what the earlier pieces cost is the local deadline
+pub local_is : (p : Plan) (q i s d : ℕ) → i ≡ (piece_of p q).task.0 → s ≡ earlier (piece_of p) q → d ≡ (task_of p i).deadline - s → d ≡ local_deadline (task_of p) (piece_of p) q
+unfolding local_deadline
+local_is p q i s d e h k = k ∙ rw (e, h)
 
 module _ (p : Plan) (M : Moderate p) where
   pub costs_small : (i j : ℕ) → j ≤ p.placed → costs (piece_of p) i j ≤ j * 1000000

@@ -1,31 +1,24 @@
 // Local deadline and bound of a piece, for sister crates and asked from outside.
 #![tactic(auto)]
 
-ghost use Rattle.std.specs.Prelude.{◌≡◌, ◌&&◌, cond, ◌≤◌, ◌<◌, ◌-◌, eqb};
+ghost use Rattle.std.specs.Prelude.{◌≡◌, ◌&&◌, cond, ◌≤◌, ◌<◌, eqb, length};
 ghost use Rattle.plans.specs.Pieces.{piece_of, task_of};
 ghost use Rattle.plans.specs.Pieces as pieces;
 ghost use Rattle.plans.specs.Interference.{interference};
 ghost use Rattle.plans.specs.Rank as rank;
-ghost use Rattle.bounds.specs.Leaves.{Moderate};
+ghost use Rattle.bounds.specs.Leaves.{Moderate, listed};
 ghost use Rattle.bounds.specs.Asking.{bound_asked};
 ghost use Rattle.bounds.specs.Bound as meaning;
 ghost use Rattle.bounds.specs.Bound.{local_deadline};
 
 use plans::{Margin, Piece, Plan};
-use tasks::{Answer, Refusal, Task};
+use tasks::{Refusal, Task};
 
-// The bound asked from outside: a piece's bound and margin, or why there is none.
+// A piece's bound and its margin.
 #[derive(Clone, Copy)]
-pub enum Bounding {
-    Known { bound: u32, margin: Margin },
-    Refused(Refusal),
-}
-
-// A piece's cost where it is task i's, otherwise 0.
-fn cost_of(z: Piece, i: usize) -> u32
-    ensures { result ≡ cond (eqb z.task.0 i) z.cost 0 }
-{
-    if z.task.index() == i { z.cost } else { 0 }
+pub struct Bounding {
+    pub bound: u32,
+    pub margin: Margin,
 }
 
 // The costs of the same task's earlier pieces. For sister crates: it asks that the plan's numbers are a good table's.
@@ -33,13 +26,13 @@ pub fn earlier(plan: Plan, q: usize) -> u32
     requires { (q < plan.placed) × Moderate plan }
     ensures { result ≡ pieces.earlier (piece_of plan) q }
 {
-    let z = plan.pieces[q];
-    let i = z.task.index();
+    let b = plan.pieces[q];
     let mut spent: u32 = 0;
-    let mut j = 0;
-    while j < q {
-        spent += cost_of(plan.pieces[j], i);
-        j += 1;
+    for j in 0..q {
+        let z = plan.pieces[j];
+        if z.task == b.task {
+            spent += z.cost;
+        }
     }
     spent
 }
@@ -49,7 +42,7 @@ pub fn pressure(z: Piece, t: Task, b: Piece, b_deadline: u32, l: u32) -> u32
     requires { (0 < t.period) × (z.cost ≤ t.period) × (t.period ≤ 1000000) × (l ≤ 1000000) }
     ensures { result ≡ cond (eqb z.core.0 b.core.0 && rank.outranks z.kind t.deadline z.task.0 b.kind b_deadline b.task.0) (interference z.cost t.period l) 0 }
 {
-    if z.core.index() != b.core.index() {
+    if z.core != b.core {
         return 0;
     }
     if plans::outranks(z, t.deadline, b, b_deadline) {
@@ -61,11 +54,17 @@ pub fn pressure(z: Piece, t: Task, b: Piece, b_deadline: u32, l: u32) -> u32
 
 // ---- The bound of a piece.
 
-// a less b, or 0.
-fn less(a: u32, b: u32) -> u32
-    ensures { result ≡ a - b }
+// The interference in length l of the pieces of a list that are ranked above piece b on its core. For sister crates: it asks that the numbers are a good table's.
+pub fn load(tasks: &[Task; 64], pieces: &[Piece], b: Piece, l: u32) -> u32
+    requires { (b.task.0 < 64) × (l ≤ 1000000) × Moderate (listed tasks.now pieces.now) }
+    ensures { (result ≡ meaning.load (task_of (listed tasks.now pieces.now)) (piece_of (listed tasks.now pieces.now)) (length pieces.now) b l) × (result ≤ 128000000) }
 {
-    if b < a { a - b } else { 0 }
+    let d = tasks[b.task.index()].deadline;
+    let mut load: u32 = 0;
+    for z in pieces {
+        load += pressure(*z, tasks[z.task.index()], b, d, l);
+    }
+    load
 }
 
 // A piece's local deadline and its bound.
@@ -81,41 +80,25 @@ pub fn bound_of(plan: Plan, q: usize) -> Bounded
     ensures { (result.deadline ≡ local_deadline (task_of plan) (piece_of plan) q) × (result.bound ≡ meaning.bound (task_of plan) (piece_of plan) plan.placed q) }
 {
     let b = plan.pieces[q];
-    let i = b.task.index();
-    let d = plan.tasks[i].deadline;
-    let spent = earlier(plan, q);
-    let deadline = less(d, spent);
-    let n = plan.placed;
-    let mut load: u32 = 0;
-    let mut j = 0;
-    while j < n {
-        let z = plan.pieces[j];
-        let k = z.task.index();
-        load += pressure(z, plan.tasks[k], b, d, deadline);
-        j += 1;
-    }
+    let d = plan.tasks[b.task.index()].deadline;
+    let deadline = d.saturating_sub(earlier(plan, q));
     Bounded {
         deadline,
-        bound: b.cost + load,
+        bound: b.cost + load(&plan.tasks, &plan.pieces[..plan.placed], b, deadline),
     }
 }
 
 // The bound and margin of piece q. Any plan record and any place at all may be given: 4, 6, 5 or 8, and 8 for a piece past the list.
-pub fn ask_bound(plan: Plan, q: usize) -> Bounding
+pub fn ask_bound(plan: Plan, q: usize) -> Result<Bounding, Refusal>
     ensures { result ≡ bound_asked plan q }
 {
-    let answer = plans::check_plan(plan);
-    match answer {
-        Answer::Refused(r) => Bounding::Refused(r),
-        Answer::Accepted => {
-            if plan.placed <= q {
-                return Bounding::Refused(Refusal::NoPlanShape);
-            }
-            let b = bound_of(plan, q);
-            Bounding::Known {
-                bound: b.bound,
-                margin: plans::margin_of(b.deadline, b.bound),
-            }
-        }
+    plans::check_plan(plan)?;
+    if plan.placed <= q {
+        return Err(Refusal::NoPlanShape);
     }
+    let b = bound_of(plan, q);
+    Ok(Bounding {
+        bound: b.bound,
+        margin: plans::margin_of(b.deadline, b.bound),
+    })
 }

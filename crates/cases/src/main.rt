@@ -1,61 +1,49 @@
 // The cases of document 01 that are not proved as examples: each prints what comes of it, and the gate compares.
 #![tactic(auto)]
 
-use board::Ran;
-use bounds::Bounding;
 use dispatch::State;
-use files::{Default, ReadTable};
-use force::{CoresInForce, InForce};
+use files::Default;
+use force::InForce;
 use jobs::{Job, Phase, Tasks};
 use plans::{Kind, Piece, Plan};
-use tasks::{Answer, CoreNo, Table, Task, TaskNo};
-use writing::Written;
+use tasks::{CoreNo, Refusal, Table, Task, TaskNo};
+use texts::Text;
 
 // The file of standard output.
 const STDOUT: i32 = 1;
-
-// The number of no task.
-const NONE: u8 = 64;
 
 fn say(words: &[u8]) {
     io::write_all(STDOUT, words);
 }
 
-fn say_answer(words: &[u8], answer: Answer) {
+fn say_answer(words: &[u8], answer: Result<(), Refusal>) {
     say(words);
     match answer {
-        Answer::Accepted => say(b"accepted\n"),
-        Answer::Refused(refusal) => console::print_refusal(refusal),
+        Ok(()) => say(b"accepted\n"),
+        Err(refusal) => console::print_refusal(refusal),
     }
 }
 
-fn say_read(words: &[u8], read: ReadTable) {
-    let answer = read.answer;
-    say_answer(words, answer);
+fn say_read(words: &[u8], read: Result<Table, Refusal>) {
+    say_answer(words, read.map(|_| ()));
 }
 
-fn say_written(words: &[u8], written: Written) {
+fn say_written(words: &[u8], written: Result<usize, Refusal>) {
     say(words);
     match written {
-        Written::Length(length) => {
+        Ok(length) => {
             io::print_decimal(STDOUT, length as u64);
             say(b" bytes\n");
         }
-        Written::Refused(refusal) => console::print_refusal(refusal),
+        Err(refusal) => console::print_refusal(refusal),
     }
-}
-
-fn wide(x: u8) -> u64 {
-    x as u64
 }
 
 // The bytes of a buffer, two hexadecimal digits each.
 fn say_bytes(bytes: &[u8]) {
-    let mut i = 0;
-    while i < bytes.len() {
-        io::print_hex(STDOUT, wide(bytes[i]), 2);
+    for byte in bytes {
+        io::print_hex(STDOUT, *byte as u64, 2);
         say(b" ");
-        i += 1;
     }
     say(b"\n");
 }
@@ -95,12 +83,10 @@ fn periods() {
 }
 
 // A file of so many tasks, fed field by field and read with this default.
-fn fed(default: Default, count: usize) -> ReadTable {
+fn fed(default: Default, count: usize) -> Result<Table, Refusal> {
     let mut reader = files::start_table(default);
-    let mut i = 0;
-    while i < count {
+    for _ in 0..count {
         reader = files::feed(reader, &[2, 0, 12, 0, 0, 0, 6, 0, 0, 0, 10, 0, 0, 0, 10]);
-        i += 1;
     }
     files::close_table(reader)
 }
@@ -115,9 +101,13 @@ fn counts() {
 // If the core count is absent, it is the default.
 fn absent(words: &[u8], default: Default) {
     say(words);
-    let mut text = [0u8; 16384];
-    let n = planlines::lister(&mut text, 0, fed(default, 1));
-    console::print(&text, n);
+    let mut bytes = [0u8; 16384];
+    let mut text = Text {
+        bytes: &mut bytes,
+        end: 0,
+    };
+    planlines::lister(&mut text, fed(default, 1));
+    console::print(text.said());
 }
 
 fn cores() {
@@ -142,14 +132,14 @@ fn reading_back(plan: Plan) {
     let mut file = io::buffer();
     let written = writing::write_plan(plan, &mut file);
     say_written(b"a plan file: ", written);
-    if let Written::Length(length) = written {
-        let mut text = [0u8; 16384];
-        let n = ticklines::runner(
-            &mut text,
-            0,
-            console::plan_in(Default::Eight, &file, length),
-        );
-        console::print(&text, n);
+    if let Ok(length) = written {
+        let mut bytes = [0u8; 16384];
+        let mut text = Text {
+            bytes: &mut bytes,
+            end: 0,
+        };
+        ticklines::runner(&mut text, console::plan_in(Default::Eight, &file, length));
+        console::print(text.said());
     }
 }
 
@@ -157,11 +147,11 @@ fn reading_back(plan: Plan) {
 fn cores_in_force<'a>(default: Default, own: &'a [u8], shipped: &'a [u8]) {
     say(b"its cores: ");
     match force::cores_in_force(default, own, shipped) {
-        CoresInForce::Cores(count) => {
+        Ok(count) => {
             io::print_decimal(STDOUT, count as u64);
             say(b"\n");
         }
-        CoresInForce::NoTable(refusal) => console::print_refusal(refusal),
+        Err(refusal) => console::print_refusal(refusal),
     }
 }
 
@@ -172,9 +162,9 @@ fn in_force<'a>(words: &'a [u8], default: Default, own: &'a [u8], shipped: &'a [
     io::print_decimal(STDOUT, part.len() as u64);
     say(b" bytes of task fields, ");
     match force::which_in_force(default, own, shipped) {
-        InForce::Own => say(b"the machine's own\n"),
-        InForce::Shipped => say(b"the shipped ones\n"),
-        InForce::Neither(refusal) => console::print_refusal(refusal),
+        Ok(InForce::Own) => say(b"the machine's own\n"),
+        Ok(InForce::Shipped) => say(b"the shipped ones\n"),
+        Err(refusal) => console::print_refusal(refusal),
     }
     cores_in_force(default, own, shipped);
 }
@@ -220,45 +210,53 @@ fn by_hand(second: Kind) -> Plan {
 }
 
 // The set of one task, or of none.
-fn only(task: u8) -> Tasks {
+fn only(task: Option<u8>) -> Tasks {
     Tasks {
-        members: [TaskNo(task); 64],
-        count: if task < NONE { 1 } else { 0 },
+        members: [TaskNo(task.unwrap_or(0)); 64],
+        count: task.is_some() as usize,
     }
 }
 
 // One tick from a state.
-fn tick(words: &[u8], plan: Plan, state: State, finished: u8, released: u8) {
+fn tick(words: &[u8], plan: Plan, state: State, finished: Option<u8>, released: Option<u8>) {
     say(words);
     let ticked = dispatch::tick(plan, state, only(finished), only(released));
-    let answer = ticked.answer;
-    let runs = ticked.runs;
-    let mut line = [0u8; 337];
-    let n = ticklines::ran(&mut line, 0, plan.cores, Ran { answer, runs });
-    console::print(&line, n);
+    let mut bytes = [0u8; 337];
+    let mut line = Text {
+        bytes: &mut bytes,
+        end: 0,
+    };
+    ticklines::ticked(&mut line, plan.cores, ticked);
+    console::print(line.said());
 }
 
 // What a tick is refused with.
 fn ticks(plan: Plan) {
     let fresh = dispatch::fresh();
-    tick(b"a finish of a task not run: ", plan, fresh, 1, NONE);
-    tick(b"a release of no such task: ", plan, fresh, NONE, 2);
+    tick(b"a finish of a task not run: ", plan, fresh, Some(1), None);
+    tick(b"a release of no such task: ", plan, fresh, None, Some(2));
     let first = fullrate::watch(plan, 1);
-    tick(b"a release at age below p: ", plan, first.state, NONE, 0);
+    tick(
+        b"a release at age below p: ",
+        plan,
+        first.state,
+        None,
+        Some(0),
+    );
     let tenth = fullrate::watch(plan, 10);
     tick(
         b"a release at age p while active: ",
         plan,
         tenth.state,
-        NONE,
-        1,
+        None,
+        Some(1),
     );
     tick(
         b"a finish and a release in one tick: ",
         plan,
         tenth.state,
-        0,
-        0,
+        Some(0),
+        Some(0),
     );
     let mut aged = fresh;
     aged.jobs[0] = Job {
@@ -268,18 +266,22 @@ fn ticks(plan: Plan) {
         age: 1,
         ran: 0,
     };
-    tick(b"a task never released of age 1: ", plan, aged, NONE, NONE);
+    tick(b"a task never released of age 1: ", plan, aged, None, None);
     say(b"after 40 ticks at full rate: ");
     let seen = fullrate::watch(plan, 40);
-    let mut line = [0u8; 59];
-    let n = ticklines::totals(&mut line, 0, seen.state);
-    console::print(&line, n);
+    let mut bytes = [0u8; 59];
+    let mut line = Text {
+        bytes: &mut bytes,
+        end: 0,
+    };
+    ticklines::totals(&mut line, seen.state);
+    console::print(line.said());
 }
 
 // The bound asked from outside.
 fn bounds(plan: Plan) {
     say(b"the bound of a piece past the list: ");
-    if let Bounding::Refused(refusal) = bounds::ask_bound(plan, 2) {
+    if let Err(refusal) = bounds::ask_bound(plan, 2) {
         console::print_refusal(refusal);
     }
 }
@@ -289,8 +291,9 @@ fn main() {
     counts();
     cores();
     writing();
-    let planned = planner::plan_table(table(3, 10));
-    reading_back(planned.plan);
+    if let Ok(plan) = planner::plan_table(table(3, 10)) {
+        reading_back(plan);
+    }
     forces();
     let hand = by_hand(Kind::Whole);
     ticks(hand);

@@ -8,7 +8,7 @@ use borrow.Author.Tests.{le-leb}
 use Rattle.tasks.proofs.Padded.{padded_length}
 use Rattle.tasks.specs.Tables.{no_task}
 use Rattle.tasks.specs.Tables as table
-use Rattle.tasks.specs.declared.Answer.TheVariants.{Accepted}
+use Rattle.std.specs.Prelude.{Ok}
 use Rattle.tasks.specs.declared.Table.{Table}
 use Rattle.tasks.specs.declared.Task.{Task}
 use Rattle.plans.specs.declared.Plan.{Plan}
@@ -22,52 +22,51 @@ use Rattle.files.specs.Reading.{clean_plan}
 use Rattle.files.specs.declared.Default.{Default}
 use Rattle.writing.specs.Fields.{plan_bytes}
 use Rattle.writing.specs.Writing.{plan_written, plan_filled}
-use Rattle.writing.specs.declared.Written.TheVariants.{Length}
 use Rattle.trips.proofs.Files.{Slice, table_is_good}
 use Rattle.trips.proofs.Trips.{plan_out_and_in}
 use Rattle.dispatch.specs.States.{fresh_state}
 use Rattle.promise.proofs.Demand3.{no_job_is_late}
 use Rattle.promise.specs.Demand3.{Demand3, PlanOf}
-use Rattle.chain.specs.Served.{table_in, plan_for, Served}
+use Rattle.chain.specs.Served.{Served}
 use Rattle.chain.proofs.Loop.{kept_after}
 
 -- a plan that the planner makes fills its record
-module _ (t : Table) (h : (planned t).answer ≡ Accepted) where
+module _ (t : Table) (p : Plan) (h : planned t ≡ Ok p) where
   -- the layout that the planner came to
-  planning : Planning t
-  planning = accepted_planning t h
+  planning : Planning t p
+  planning = accepted_planning t p h
 
   -- its list of tasks is whole
-  tasks_long : length (planned t).plan.tasks ≡ 64
+  tasks_long : length p.tasks ≡ 64
   unfolding start
   tasks_long = ap (λ (w : Plan). length w.tasks) planning.plan ∙ ap (λ (ts : List Task). length ts) (lay_keeps (start t) t.count planning.draft planning.lays).tasks ∙ padded_length 64 no_task t.count (table.task_of t)
 
   -- its list of pieces is whole
-  pieces_long : length (planned t).plan.pieces ≡ 128
+  pieces_long : length p.pieces ≡ 128
   pieces_long = ap (λ (w : Plan). length w.pieces) planning.plan ∙ (lay_ready t planning.good t.count (le_refl _) planning.draft planning.lays).long
 
   -- nothing is past its counts, so what is read back is the very record
-  same : clean_plan (planned t).plan ≡ (planned t).plan
-  same = clean_plan_is (planned t).plan (planned_clean t h) tasks_long pieces_long
+  same : clean_plan p ≡ p
+  same = clean_plan_is p (planned_clean t p h) tasks_long pieces_long
 
   -- the writer takes it if there is room
-  taken : (e : List ℕ) → length (plan_bytes (planned t).plan) ≤ length e → plan_written (planned t).plan e ≡ Length (length (plan_bytes (planned t).plan))
+  taken : (e : List ℕ) → length (plan_bytes p) ≤ length e → plan_written p e ≡ Ok (length (plan_bytes p))
   unfolding plan_written
-  taken e room = rw (planned_shape t h, le-leb (length (plan_bytes (planned t).plan)) (length e) room)
+  taken e room = rw (planned_shape t p h, le-leb (length (plan_bytes p)) (length e) room)
 
   -- and what it leaves in the buffer reads back to it
-  reads_back : (c : Default) (e : List ℕ) (n : ℕ) → plan_written (planned t).plan e ≡ Length n → plan_read c (take n (plan_filled (planned t).plan e)) ≡ record { answer = Accepted; plan = (planned t).plan }
-  reads_back c e n w = plan_out_and_in c (planned t).plan e (plan_filled (planned t).plan e) n (plan_read c (take n (plan_filled (planned t).plan e))) (sym w) refl refl ∙ ap (λ (v : Plan). record { answer = Accepted; plan = v }) same
+  reads_back : (c : Default) (e : List ℕ) (n : ℕ) → plan_written p e ≡ Ok n → plan_read c (take n (plan_filled p e)) ≡ Ok p
+  reads_back c e n w = plan_out_and_in c p e (plan_filled p e) n (plan_read c (take n (plan_filled p e))) (sym w) refl refl ∙ ap (λ (v : Plan). Ok v) same
 
 -- bytes that are a table file whose table is planned: all of the chain holds
-pub bytes_to_deadlines : (d : Default) (s : List ℕ) → Slice s → (table_read d s).answer ≡ Accepted → (planned (table_in d s)).answer ≡ Accepted → Served d s
-bytes_to_deadlines d s lent a h =
-    let promised : PlanOf (table_in d s) (plan_for d s) × Demand3 (plan_for d s) = no_job_is_late (table_in d s) h in
+pub bytes_to_deadlines : (d : Default) (s : List ℕ) (t : Table) (p : Plan) → Slice s → table_read d s ≡ Ok t → planned t ≡ Ok p → Served t p
+bytes_to_deadlines d s t p lent a h =
+    let promised : PlanOf t p × Demand3 p = no_job_is_late t p h in
     record {
-      good = table_is_good d s lent a;
+      good = table_is_good d s lent t a;
       plan = promised.0;
-      room = taken (table_in d s) h;
-      back = reads_back (table_in d s) h;
+      room = taken t p h;
+      back = reads_back t p h;
       on_time = promised.1;
-      kept = λ finished released see n x. kept_after finished released see (plan_for d s) n x fresh_state;
+      kept = λ finished released see n x. kept_after finished released see p n x fresh_state;
     }

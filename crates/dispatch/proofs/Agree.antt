@@ -10,7 +10,7 @@ use lib.Dec.{ltb, eqb}
 use lib.ListN.{get_or}
 use borrow.Author.Tests.{le-ltb}
 use Rattle.tasks.specs.Below.{any, padded}
-use Rattle.tasks.specs.declared.Answer.TheVariants.{Accepted}
+use Rattle.tasks.specs.Answers.{Accepted}
 use Rattle.tasks.specs.declared.Refusal.{Refusal}
 use Rattle.tasks.specs.declared.Refusal.TheVariants.{NotRun, TooSoon, StillActive}
 use Rattle.tasks.specs.declared.TaskNo.{TaskNo}
@@ -30,10 +30,9 @@ use Rattle.jobs.specs.Sets.{member, SameSet}
 use Rattle.dispatch.specs.Sound.{Sound, AtPieces}
 use Rattle.dispatch.specs.Advance.{next_state, checked}
 use Rattle.jobs.specs.WellMade.{piece_exists, job_well_made, core_well_made}
-use Rattle.jobs.specs.declared.CoreRun.{CoreRun}
+use Rattle.jobs.specs.Jobs.{Runner}
 use Rattle.jobs.specs.declared.Job.{Job}
-use Rattle.jobs.specs.declared.Runner.{Runner}
-use Rattle.jobs.specs.declared.Runner.TheVariants.{Idle, Runs}
+use Rattle.jobs.specs.Jobs.{Idle, Runs}
 use Rattle.dispatch.specs.declared.State.{State}
 use Rattle.jobs.specs.declared.Tasks.{Tasks}
 use Rattle.dispatch.proofs.Checked.{Good, good, sound}
@@ -161,13 +160,13 @@ module _ (a b : Plan) (plans : SamePlan a b) where
 
       run_last : (run a s).last ≡ (run b t).last
       unfolding run
-      run_last = padded_same 16 no_run a.cores (chosen a s) (chosen b t) (λ x l. ap (λ (r : Runner). record { runner = r }) (highest_same x a.count (le_refl _) ∙ ap (highest b t x) plans.count)) ∙ ap (λ (n : ℕ). padded 16 n no_run (chosen b t)) plans.cores
+      run_last = padded_same 16 no_run a.cores (chosen a s) (chosen b t) (λ x l. ap (λ (r : Runner). r) (highest_same x a.count (le_refl _) ∙ ap (highest b t x) plans.count)) ∙ ap (λ (n : ℕ). padded 16 n no_run (chosen b t)) plans.cores
 
       run_same : Alike (run a s) (run b t)
       unfolding run
       run_same = record {
         jobs = run_jobs;
-        last = λ x l. ap (λ (cs : List CoreRun). (get_or cs x no_run).runner) run_last;
+        last = λ x l. ap (λ (cs : List Runner). (get_or cs x no_run)) run_last;
         late = e.late;
         preemptions = e.preemptions;
       }

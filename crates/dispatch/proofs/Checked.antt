@@ -5,7 +5,7 @@ use Prim.Native.Nat.{ℕ, ◌≤◌, ◌<◌}
 use lib.Dec.{eqb}
 use borrow.Author.Tests.{leb-true}
 use Rattle.tasks.specs.Below.{first}
-use Rattle.tasks.specs.declared.Answer.TheVariants.{Accepted, Refused}
+use Rattle.tasks.specs.Answers.{Accepted, Refused}
 use Rattle.tasks.specs.declared.Refusal.TheVariants.{NotWellMade}
 use Rattle.tasks.proofs.Tables.{Ranges}
 use Rattle.tasks.proofs.Answers.{both_accepted, met}

@@ -17,8 +17,8 @@ use Rattle.plans.proofs.Rank.{above_self, above_chain, above_total}
 use Rattle.jobs.specs.Jobs.{is_active, names}
 use Rattle.dispatch.specs.States.{job_of}
 use Rattle.dispatch.specs.Rules.{piece_at, stands_on, beats, highest}
-use Rattle.jobs.specs.declared.Runner.{Runner}
-use Rattle.jobs.specs.declared.Runner.TheVariants.{Idle, Runs}
+use Rattle.jobs.specs.Jobs.{Runner}
+use Rattle.jobs.specs.Jobs.{Idle, Runs}
 use Rattle.dispatch.specs.declared.State.{State}
 
 idle_not : {A : Type 0} {t : TaskNo} → Idle ≡ Runs t → A

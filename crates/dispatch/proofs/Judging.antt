@@ -7,34 +7,34 @@ use Prim.Native.Nat.{ℕ, ◌+◌, ◌%◌, ◌≤◌, ◌<◌, min}
 use native.Mathlib.Decide.{ℕ_discrete, dec_lt}
 use native.Mathlib.Omega.{arith}
 use lib.Dec.{leb, ltb, eqb}
-use lib.ListN.{length, get_or, set, get_or-eq_default}
-use borrow.Author.Tests.{le-leb, lt-leb, lt-ltb, le-ltb, ltb-true, ltb-false, eq-eqb, ne_eqb}
+use Rattle.std.proofs.lemmas.List.{length-take}
+use lib.ListN.{length, get_or, set, take, get_or-eq_default}
+use borrow.Author.Tests.{le-leb, lt-leb, lt-ltb, le-ltb, eq-eqb, ne_eqb}
 use Rattle.tasks.specs.Below.{any, first, tabulate}
 use Rattle.tasks.specs.Tables.{task_no}
-use Rattle.tasks.specs.declared.Answer.TheVariants.{Accepted, Refused}
+use Rattle.tasks.specs.Answers.{Accepted, Refused}
 use Rattle.tasks.specs.declared.Refusal.{Refusal}
 use Rattle.tasks.specs.declared.TaskNo.{TaskNo}
-use Rattle.tasks.proofs.Below.{Found, any_found, any_make, any_each, any_more, any_same, any_none, first_holds, first_none, first_before, first_is, first_same}
+use Rattle.tasks.proofs.Below.{Found, any_found, any_make, any_each, any_more, any_none, first_holds, first_none, first_before, first_is, first_same}
 use Rattle.tasks.proofs.Bools.{clash, either, not_second, and_true}
 use Rattle.tasks.proofs.Padded.{tabulate_at, padded_length, padded_in}
-use Rattle.tasks.proofs.Tabulate.{tabulate_turn}
+use Rattle.tasks.proofs.Tabulate.{tabulate_same, tabulate_turn}
 use Rattle.plans.specs.Pieces.{task_of}
 use Rattle.plans.specs.declared.Plan.{Plan}
-use Rattle.jobs.specs.Jobs.{no_job, no_run, names, runner_no, is_active, once_released, phase_no}
-use Rattle.dispatch.specs.States.{job_of, last_of}
-use Rattle.dispatch.specs.Refusing.{not_run, too_soon, still_active, lowest_no, lowest}
+use Rattle.std.specs.Prelude.{Option, None, Some}
+use Rattle.jobs.specs.Jobs.{no_job, no_run, names, is_active, once_released, Idle, Runs}
+use Rattle.dispatch.specs.States.{job_of}
+use Rattle.tasks.specs.declared.Refusal.TheVariants.{NotRun, TooSoon, StillActive}
+use Rattle.dispatch.specs.Refusing.{not_run, too_soon, still_active, lowest_no, lowest, judged_sets}
 use Rattle.dispatch.specs.Rules.{each_job, ended_job, finished_job, finish}
 use Rattle.jobs.specs.Sets.{member}
-use Rattle.jobs.specs.declared.CoreRun.{CoreRun}
+use Rattle.jobs.specs.Jobs.{Runner}
 use Rattle.jobs.specs.declared.Job.{Job}
 use Rattle.jobs.specs.declared.Phase.{Phase}
 use Rattle.jobs.specs.declared.Phase.TheVariants.{Never, Active, Ended}
-use Rattle.dispatch.specs.declared.Lowest.{Lowest}
-use Rattle.dispatch.specs.declared.Lowest.TheVariants.{Nobody, Task}
 use Rattle.dispatch.specs.declared.State.{State}
 use Rattle.jobs.specs.declared.Tasks.{Tasks}
 use Rattle.dispatch.proofs.Steps.{finish_out}
-use Rattle.jobs.proofs.Numbers.{active_no, once_no, named_no}
 use Rattle.jobs.proofs.Walks.{or_none, or_one}
 
 not_below : (n t : ℕ) → leb n t ≡ not (ltb t n)
@@ -60,32 +60,34 @@ any_read size n f h = go (either (any n f))
             within (no l) = clash k.holds (h k.place (omega arith))
 
 -- one core more is one task more that ran, or none
-module _ (count : ℕ) (last : List CoreRun) where
-  -- what ran on core x, as a number
-  abbrev ran_on : ℕ → ℕ
-  ran_on x = runner_no (get_or last x no_run).runner
+module _ (count : ℕ) (last : List Runner) where
+  -- what ran on core x
+  abbrev ran_on : ℕ → Runner
+  ran_on x = get_or last x no_run
 
   -- refusal 10, only the first x cores being looked at
   abbrev pub not_run_on : ℕ → ℕ → Bool
-  not_run_on x t = not (ltb t count && any x (λ y. eqb (ran_on y) t))
+  not_run_on x t = not (ltb t count && any x (λ y. names t (ran_on y)))
 
-  pub none_run : (t : ℕ) → t < 257 → true ≡ not_run_on 0 t
+  pub none_run : (t : ℕ) → t < 256 → true ≡ not_run_on 0 t
   unfolding any
   none_run t l = rw (not_second (ltb t count) {b = false} refl)
 
-  pub run_more : (xs : List Bool) (x t : ℕ) → xs ≡ tabulate 257 (not_run_on x) → t ≡ ran_on x → t < 257 → set xs t (leb count t) ≡ tabulate 257 (not_run_on (x + 1))
-  run_more xs x t e q l =
-      tabulate_turn 257 (not_run_on x) (not_run_on (x + 1)) xs t (leb count t) e l
-      (rw (any_more, ← or_one (any x (λ y. eqb (ran_on y) t)) (eq-eqb (ran_on x) t (sym q)), and_true) (not_below count t))
-      (λ i d. rw any_more (ap (λ (z : Bool). not (ltb i count && z)) (or_none (any x (λ y. eqb (ran_on y) i)) (ne_eqb (ran_on x) i (λ b. d (sym b ∙ sym q))))))
+  module _ (xs : List Bool) (x : ℕ) (e : xs ≡ tabulate 256 (not_run_on x)) where
+    pub run_more : (u : TaskNo) → ran_on x ≡ Runs u → (t : ℕ) → t ≡ u.0 → t < 256 → set xs t (leb count t) ≡ tabulate 256 (not_run_on (x + 1))
+    run_more u r t q l =
+        tabulate_turn 256 (not_run_on x) (not_run_on (x + 1)) xs t (leb count t) e l
+        (rw (any_more, ← or_one (any x (λ y. names t (ran_on y))) {b = names t (ran_on x)} (rw r (eq-eqb u.0 t (sym q))), and_true) (not_below count t))
+        (λ i d. rw any_more (ap (λ (z : Bool). not (ltb i count && z)) (or_none (any x (λ y. names i (ran_on y))) {b = names i (ran_on x)} (rw r (ne_eqb u.0 i (λ b. d (sym b ∙ sym q)))))))
 
-  pub run_read : (p : Plan) (s : State) (xs : List Bool) → length last ≡ 16 → p.count ≡ count → s.last ≡ last → xs ≡ tabulate 257 (not_run_on (min p.cores 16)) → (t : ℕ) → t < 256 → get_or xs t false ≡ not_run p s t
-  run_read p s xs size h l e t b =
-      rw (e, tabulate_at 257 (not_run_on (min p.cores 16)) t false (omega arith), ← h, any_read 16 p.cores (λ y. eqb (ran_on y) t) past, ← l)
-      (ap (λ (z : Bool). not (ltb t p.count && z)) (any_same p.cores (λ y. eqb (runner_no (last_of s y)) t) (λ y. names t (last_of s y)) (λ y k. named_no (last_of s y) t b)))
+    pub run_none : ran_on x ≡ Idle → xs ≡ tabulate 256 (not_run_on (x + 1))
+    run_none r = e ∙ tabulate_same 256 (not_run_on x) (not_run_on (x + 1)) false (λ i l. rw any_more (ap (λ (z : Bool). not (ltb i count && z)) (or_none (any x (λ y. names i (ran_on y))) {b = names i (ran_on x)} (rw r))))
+
+  pub run_read : (p : Plan) (s : State) (xs : List Bool) → length last ≡ 16 → p.count ≡ count → s.last ≡ last → xs ≡ tabulate 256 (not_run_on (min p.cores 16)) → (t : ℕ) → t < 256 → get_or xs t false ≡ not_run p s t
+  run_read p s xs size h l e t b = rw (e, tabulate_at 256 (not_run_on (min p.cores 16)) t false b, ← h, any_read 16 p.cores (λ y. names t (ran_on y)) past, ← l)
     where
-      past : (y : ℕ) → 16 ≤ y → eqb (ran_on y) t ≡ false
-      past y k = let z : get_or last y no_run ≡ no_run = get_or-eq_default last no_run (omega arith) in rw z (ne_eqb 256 t (λ w. omega arith))
+      past : (y : ℕ) → 16 ≤ y → names t (ran_on y) ≡ false
+      past y k = let z : get_or last y no_run ≡ no_run = get_or-eq_default last no_run (omega arith) in rw z
 
 -- a job that is finished has the age that it had and was as often released, and it is not active
 soon_job : (h : Phase) (m : Bool) (late : Bool) (piece age ran d : ℕ) → let j : Job = record { phase = h; late = late; piece = piece; age = age; ran = ran } in let f : Job = cond (m && is_active h) (ended_job j) j in once_released h && ltb age d ≡ once_released f.phase && ltb f.age d
@@ -126,16 +128,16 @@ module _ (p : Plan) (s : State) (fs : Tasks) (t known : ℕ) (ek : known ≡ min
       go (no b) = get_or-eq_default (finish p fs s).jobs no_job (omega (arith, padded_length 64 no_job p.count (λ i. finished_job fs i (job_of s i))))
 
   -- what the walk over the released tasks reads: job and task t, where t numbers some
-  module _ (jobs : List Job) (ej : s.jobs ≡ jobs) (i n : ℕ) (ei : i ≡ t % 64) (en : n ≡ phase_no (get_or jobs i no_job).phase) where
-    pub soon_read : leb p.count t || (ltb t known && ltb 0 n && ltb (get_or jobs i no_job).age (task_of p i).period) ≡ soon_after p fs s t
-    soon_read = rw (en, once_no, ← ej, not_below p.count t) (ap (λ (z : Bool). not (ltb t p.count) || z) (go (dec_lt t known)))
+  module _ (i : ℕ) (ei : i ≡ t % 64) where
+    pub soon_read : (once : Bool) → once ≡ once_released (job_of s i).phase → leb p.count t || (ltb t known && once && ltb (job_of s i).age (task_of p i).period) ≡ soon_after p fs s t
+    soon_read once eo = rw (eo, not_below p.count t) (ap (λ (z : Bool). not (ltb t p.count) || z) (go (dec_lt t known)))
       where
         go : Dec (t < known) → ltb t known && once_released (job_of s i).phase && ltb (job_of s i).age (task_of p i).period ≡ once_released (job_of (finish p fs s) t).phase && ltb (job_of (finish p fs s) t).age (task_of p t).period
         go (yes l) = let e : i ≡ t = omega arith in rw (e, lt-ltb t known l, finished_is l) (soon_job (job_of s t).phase (member fs t) (job_of s t).late (job_of s t).piece (job_of s t).age (job_of s t).ran (task_of p t).period)
         go (no l) = rw (le-ltb t known (omega arith), finished_past (omega arith))
 
-    pub active_read : (ended : List Bool) → ended ≡ tabulate 256 (member fs) → t < 256 → ltb t known && eqb n 1 && eqb (get_or jobs i no_job).age (task_of p i).period && not (get_or ended t false) ≡ active_after p fs s t
-    active_read ended ee b = rw (en, active_no, ← ej, ee, tabulate_at 256 (member fs) t false b) (go (dec_lt t known))
+    pub active_read : (active : Bool) → active ≡ is_active (job_of s i).phase → (ended : List Bool) → ended ≡ tabulate 256 (member fs) → t < 256 → ltb t known && active && eqb (job_of s i).age (task_of p i).period && not (get_or ended t false) ≡ active_after p fs s t
+    active_read active ea ended ee b = rw (ea, ee, tabulate_at 256 (member fs) t false b) (go (dec_lt t known))
       where
         go : Dec (t < known) → ltb t known && is_active (job_of s i).phase && eqb (job_of s i).age (task_of p i).period && not (member fs t) ≡ active_after p fs s t
         go (yes l) = let e : i ≡ t = omega arith in rw (e, lt-ltb t known l, finished_is l) (active_job (job_of s t).phase (member fs t) (job_of s t).late (job_of s t).piece (job_of s t).age (job_of s t).ran (task_of p t).period)
@@ -155,15 +157,6 @@ first_with n f g t l same e = go (dec_lt (first n f) t)
     go : Dec (first n f < t) → min (first n f) t ≡ first n g
     go (yes h) = let m : min (first n f) t ≡ first n f = omega arith in m ∙ sym (first_is n g (first n f) (omega arith) (sym (same (first n f) (λ z. omega arith)) ∙ holds (omega arith) (either (any n f))) (λ j b. before j b (omega arith)))
     go (no h) = let m : min (first n f) t ≡ t = omega arith in m ∙ sym (first_is n g t l e (λ j b. before j (omega arith) b))
-
--- the lower of two tasks, the second only where it is wrong
-pub lower_taken : (b : Bool) (low t i n : ℕ) → b && ltb i n ≡ true → i ≡ t → n ≡ low → t ≡ cond b (min low t) low
-lower_taken true low t i n h p q = omega (arith, ltb-true i n h)
-lower_taken false low t i n h p q = clash h refl
-
-pub lower_left : (b : Bool) (low t i n : ℕ) → b && ltb i n ≡ false → i ≡ t → n ≡ low → low ≡ cond b (min low t) low
-lower_left true low t i n h p q = omega (arith, ltb-false i n h)
-lower_left false low t i n h p q = refl
 
 -- t is a member, and bad
 abbrev wrong : Tasks → (ℕ → Bool) → ℕ → Bool
@@ -191,11 +184,14 @@ module _ (u : Tasks) (bad : ℕ → Bool) where
   unfolding any
   lowest_start = sym (first_none 256 (wrong_in 0) (any_none 256 (wrong_in 0) (λ j l. refl)))
 
-  pub lowest_turn : (k t low r : ℕ) (b : Bool) → low ≡ lowest_of k → t ≡ member_at u k → t < 256 → b ≡ bad t → r ≡ cond b (min low (member_at u k)) low → r ≡ lowest_of (k + 1)
-  lowest_turn k t low r b e q l w h = go (bad t) refl
+  pub lowest_turn : (k m t low r : ℕ) (b : Bool) → low ≡ lowest_of k → m ≡ member_at u k → t ≡ m → t < 256 → b ≡ bad t → r ≡ cond b (min low m) low → r ≡ lowest_of (k + 1)
+  lowest_turn k m t low r b e a z l w h = go (bad t) refl
     where
+      q : t ≡ member_at u k
+      q = z ∙ a
+
       here : r ≡ cond b (min low t) low
-      here = h ∙ ap (λ (m : ℕ). cond b (min low m) low) (sym q)
+      here = h ∙ ap (λ (n : ℕ). cond b (min low n) low) (sym z)
 
       other : (i : ℕ) → (i ≡ t → ⊥) → wrong_in k i ≡ wrong_in (k + 1) i
       other i d = rw any_more (ap (λ (z : Bool). z && bad i) (or_none (any k (λ j. eqb (member_at u j) i)) (ne_eqb (member_at u k) i (λ z. d (sym z ∙ sym q)))))
@@ -208,9 +204,10 @@ module _ (u : Tasks) (bad : ℕ → Bool) where
       go true z = here ∙ rw (w, z, e) (first_with 256 (wrong_in k) (wrong_in (k + 1)) t l other (rw (any_more, ← or_one (any k (λ j. eqb (member_at u j) t)) (eq-eqb (member_at u k) t (sym q))) z))
       go false z = here ∙ rw (w, z, e) (first_same 256 (wrong_in k) (wrong_in (k + 1)) (λ i y. each z i (ℕ_discrete i t)))
 
-  pub lowest_all : (k low : ℕ) → k ≡ min u.count 64 → low ≡ lowest_of k → low ≡ lowest_bad u bad
+  -- and its end, the members being n of the list
+  pub lowest_all : (n k low : ℕ) → length u.members ≡ 64 → n ≡ min u.count 64 → k ≤ length (take n u.members) → length (take n u.members) ≤ k → low ≡ lowest_of k → low ≡ lowest_bad u bad
   unfolding member
-  lowest_all k low e h = h ∙ ap lowest_of e
+  lowest_all n k low size q a b h = let e : k ≡ min u.count 64 = omega (arith, q, a, b, size, length-take n u.members) in h ∙ ap lowest_of e
 
 module _ (u : Tasks) (bad : ℕ → Bool) (say : TaskNo → Refusal) where
   -- the lowest member that is bad is named
@@ -223,11 +220,11 @@ module _ (u : Tasks) (bad : ℕ → Bool) (say : TaskNo → Refusal) where
       go (inr a) = absurd (omega (arith, et, first_none 256 (wrong u bad) a))
 
   -- so a task that was found is the lowest that is refused
-  pub lowest_refused : (low : Lowest) → lowest_no low ≡ lowest_bad u bad → (t : TaskNo) → low ≡ Task t → t.0 < 256 → Refused (say t) ≡ lowest u bad say
+  pub lowest_refused : (low : Option TaskNo) → lowest_no low ≡ lowest_bad u bad → (t : TaskNo) → low ≡ Some t → t.0 < 256 → Refused (say t) ≡ lowest u bad say
   lowest_refused low is t e l = lowest_names t.0 (rw e at is) l
 
   -- and if none was found, none is refused
-  pub lowest_accepted : (low : Lowest) → lowest_no low ≡ lowest_bad u bad → low ≡ Nobody → Accepted ≡ lowest u bad say
+  pub lowest_accepted : (low : Option TaskNo) → lowest_no low ≡ lowest_bad u bad → low ≡ None → Accepted ≡ lowest u bad say
   unfolding lowest
   lowest_accepted low is e = go (either (any 256 (wrong u bad)))
     where
@@ -237,3 +234,29 @@ module _ (u : Tasks) (bad : ℕ → Bool) (say : TaskNo → Refusal) where
       go : (any 256 (wrong u bad) ≡ true) ⊎ (any 256 (wrong u bad) ≡ false) → Accepted ≡ cond (any 256 (wrong u bad)) (Refused (say (task_no (lowest_bad u bad)))) Accepted
       go (inl a) = absurd (omega (arith, et, (first_holds 256 (wrong u bad) a).0))
       go (inr a) = rw a
+
+-- what was found says what a tick's sets are refused with
+module _ (p : Plan) (s : State) (fs rs : Tasks) (ran : Option TaskNo) (er : lowest_no ran ≡ lowest_bad fs (not_run p s)) where
+  pub judged_ran : (t : TaskNo) → ran ≡ Some t → t.0 < 256 → Refused (NotRun t) ≡ judged_sets p s fs rs
+  unfolding judged_sets
+  judged_ran t e l = rw (← lowest_refused fs (not_run p s) (λ u. NotRun u) ran er t e l)
+
+  module _ (none : ran ≡ None) (soon active : Option TaskNo) (es : lowest_no soon ≡ lowest_bad rs (soon_after p fs s)) (ea : lowest_no active ≡ lowest_bad rs (active_after p fs s)) where
+    all_ran : Accepted ≡ lowest fs (not_run p s) (λ u. NotRun u)
+    all_ran = lowest_accepted fs (not_run p s) (λ u. NotRun u) ran er none
+
+    pub judged_soon : (t : TaskNo) → soon ≡ Some t → t.0 < 256 → Refused (TooSoon t) ≡ judged_sets p s fs rs
+    unfolding judged_sets
+    judged_soon t e l = rw (← all_ran, ← lowest_refused rs (soon_after p fs s) (λ u. TooSoon u) soon es t e l)
+
+    module _ (late : soon ≡ None) where
+      none_soon : Accepted ≡ lowest rs (soon_after p fs s) (λ u. TooSoon u)
+      none_soon = lowest_accepted rs (soon_after p fs s) (λ u. TooSoon u) soon es late
+
+      pub judged_active : (t : TaskNo) → active ≡ Some t → t.0 < 256 → Refused (StillActive t) ≡ judged_sets p s fs rs
+      unfolding judged_sets
+      judged_active t e l = rw (← all_ran, ← none_soon, ← lowest_refused rs (active_after p fs s) (λ u. StillActive u) active ea t e l)
+
+      pub judged_well : active ≡ None → Accepted ≡ judged_sets p s fs rs
+      unfolding judged_sets
+      judged_well e = rw (← all_ran, ← none_soon, ← lowest_accepted rs (active_after p fs s) (λ u. StillActive u) active ea e)

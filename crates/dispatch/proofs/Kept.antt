@@ -8,8 +8,8 @@ use lib.Dec.{ltb}
 use lib.ListN.{replicate}
 use borrow.Author.Tests.{lt-ltb, eq-eqb}
 use Rattle.tasks.specs.Below.{any}
-use Rattle.tasks.specs.declared.Answer.{Answer}
-use Rattle.tasks.specs.declared.Answer.TheVariants.{Accepted, Refused}
+use Rattle.tasks.specs.Answers.{Answer}
+use Rattle.tasks.specs.Answers.{Accepted, Refused}
 use Rattle.tasks.specs.declared.Refusal.{Refusal}
 use Rattle.tasks.proofs.Below.{all_make, any_none}
 use Rattle.tasks.proofs.Bools.{either, both, both_make}
@@ -22,9 +22,8 @@ use Rattle.dispatch.specs.Tick.{judged, answered, tick}
 use Rattle.dispatch.specs.Rules.{each_job, finish, mark_late, release, stands_on, highest, runs_now, ran_job, run, count_preempted, aged_job, age}
 use Rattle.dispatch.specs.Advance.{next_state}
 use Rattle.jobs.specs.WellMade.{job_well_made, core_well_made}
-use Rattle.jobs.specs.declared.CoreRun.{CoreRun}
-use Rattle.jobs.specs.declared.Runner.{Runner}
-use Rattle.jobs.specs.declared.Runner.TheVariants.{Idle, Runs}
+use Rattle.jobs.specs.Jobs.{Runner}
+use Rattle.jobs.specs.Jobs.{Idle, Runs}
 use Rattle.dispatch.specs.declared.State.{State}
 use Rattle.jobs.specs.declared.Tasks.{Tasks}
 use Rattle.dispatch.specs.declared.Ticked.{Ticked}
@@ -120,7 +119,7 @@ fresh_job : (i : ℕ) → job_of fresh_state i ≡ no_job
 fresh_job i = replicate_at 64 i no_job
 
 fresh_core : (x : ℕ) → last_of fresh_state x ≡ Idle
-fresh_core x = ap (λ (c : CoreRun). c.runner) (replicate_at 16 x no_run)
+fresh_core x = ap (λ (c : Runner). c) (replicate_at 16 x no_run)
 
 pub fresh_made : (p : Plan) → well_made p fresh_state ≡ true
 unfolding well_made job_well_made core_well_made

@@ -13,9 +13,9 @@ use Rattle.dispatch.specs.States.{job_of, last_of, well_made}
 use Rattle.dispatch.specs.Rules.{each_job, finished_job, finish, marked_job, mark_late, released_job, release, piece_at, highest, chosen, runs_now, ran_job, run, count_preempted, aged_job, age}
 use Rattle.dispatch.specs.Sound.{AtPieces, Filled}
 use Rattle.jobs.specs.WellMade.{job_well_made}
-use Rattle.jobs.specs.declared.CoreRun.{CoreRun}
+use Rattle.jobs.specs.Jobs.{Runner}
 use Rattle.jobs.specs.declared.Job.{Job}
-use Rattle.jobs.specs.declared.Runner.TheVariants.{Idle}
+use Rattle.jobs.specs.Jobs.{Idle}
 use Rattle.dispatch.specs.declared.State.{State}
 use Rattle.jobs.specs.declared.Tasks.{Tasks}
 use Rattle.dispatch.proofs.Checked.{Good}
@@ -89,11 +89,11 @@ module _ (p : Plan) (g : Good p) where
 
   pub run_last : (s : State) (x : ℕ) → x < p.cores → last_of (run p s) x ≡ highest p s x p.count
   unfolding run
-  run_last s x l = ap (λ (c : CoreRun). c.runner) (padded_in 16 no_run p.cores (chosen p s) x l (omega (arith, g.cores)))
+  run_last s x l = ap (λ (c : Runner). c) (padded_in 16 no_run p.cores (chosen p s) x l (omega (arith, g.cores)))
 
   pub run_past : (s : State) (x : ℕ) → p.cores ≤ x → last_of (run p s) x ≡ Idle
   unfolding run
-  run_past s x l = ap (λ (c : CoreRun). c.runner) (padded_out 16 no_run p.cores (chosen p s) x l)
+  run_past s x l = ap (λ (c : Runner). c) (padded_out 16 no_run p.cores (chosen p s) x l)
 
   -- ---- each rule keeps the jobs as they sit
   pub made_all : (s : State) → well_made p s ≡ true → Sits p s

@@ -27,6 +27,10 @@ bit false = refl
 pub count_turn : (f : ℕ → Bool) (i a : ℕ) (t : Bool) → a ≡ count i f → t ≡ f i → a + bool_byte t ≡ count (i + 1) f
 count_turn f i a t e h = rw (bit t, e, h) (sym (count_more i f))
 
+-- and one that is not
+pub count_stay : (f : ℕ → Bool) (i a : ℕ) → a ≡ count i f → false ≡ f i → a ≡ count (i + 1) f
+count_stay f i a e h = omega (arith, e, count_more i f, ap (λ (b : Bool). cond {A = ℕ} b 1 0) h)
+
 pub count_least : (i a : ℕ) (t : Bool) → a ≤ i → a + bool_byte t ≤ i + 1
 count_least i a true l = omega arith
 count_least i a false l = omega arith

@@ -1,15 +1,14 @@
--- The rules in their order, or a refusal of the plan or the state.
+-- The rules in their order, and when the plan or the state is refused.
 use Rattle.std.specs.Prelude.{cond}
 use Rattle.tasks.specs.Tables.{and_then}
-use Rattle.tasks.specs.declared.Answer.{Answer}
-use Rattle.tasks.specs.declared.Answer.TheVariants.{Accepted, Refused}
+use Rattle.tasks.specs.Answers.{Answer}
+use Rattle.tasks.specs.Answers.{Accepted, Refused}
 use Rattle.tasks.specs.declared.Refusal.TheVariants.{NotWellMade}
 use Rattle.plans.specs.Shape.{checked_plan}
 use Rattle.plans.specs.declared.Plan.{Plan}
 use Rattle.jobs.specs.declared.Tasks.{Tasks}
 use Rattle.dispatch.specs.Rules.{finish, mark_late, release, run, age, count_preempted}
 use Rattle.dispatch.specs.States.{well_made}
-use Rattle.dispatch.specs.declared.Advanced.{Advanced}
 use Rattle.dispatch.specs.declared.State.{State}
 
 -- 4, 6, 5 and 8 for the plan, 9 for the state
@@ -21,11 +20,3 @@ unfoldable pub next_state : Plan → Tasks → Tasks → State → State
 next_state p fs rs s =
     let after : State = finish p fs s in
     age p (count_preempted p after (run p (release p rs (mark_late p after))))
-
--- on a refusal the state is the one given
-abbrev pub advanced : Answer → State → State → Advanced
-advanced (Refused r) given next = record { answer = Refused r; state = given }
-advanced Accepted given next = record { answer = Accepted; state = next }
-
-unfoldable pub advance : Plan → State → Tasks → Tasks → Advanced
-advance p s fs rs = advanced (checked p s) s (next_state p fs rs s)

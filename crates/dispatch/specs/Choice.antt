@@ -8,7 +8,7 @@ use Rattle.jobs.specs.Jobs.{is_active}
 use Rattle.dispatch.specs.States.{job_of}
 use Rattle.dispatch.specs.Rules.{piece_at, highest}
 use Rattle.dispatch.specs.Sound.{AtPieces}
-use Rattle.jobs.specs.declared.CoreRun.{CoreRun}
+use Rattle.jobs.specs.Jobs.{Runner}
 use Rattle.dispatch.specs.declared.Stand.{Stand}
 use Rattle.dispatch.specs.declared.State.{State}
 
@@ -30,5 +30,5 @@ pub record StandsOf (p : Plan) (s : State) (stands : List Stand) : Type 0 where
   pub list : stands ≡ padded 64 p.count no_stand (stand_of p s)
 
 -- of the first k tasks, the highest ranked on core x
-abbrev pub found : Plan → State → ℕ → ℕ → CoreRun
-found p s k x = record { runner = highest p s x k }
+abbrev pub found : Plan → State → ℕ → ℕ → Runner
+found p s k x = highest p s x k

@@ -1,9 +1,9 @@
 -- When a tick's sets are refused: 10, 11 and 12, each with the lowest task that it concerns.
-use Rattle.std.specs.Prelude.{Bool, not, ◌&&◌, ◌||◌, cond, ℕ, ltb, eqb}
+use Rattle.std.specs.Prelude.{Bool, not, ◌&&◌, ◌||◌, cond, ℕ, ltb, eqb, Option, None, Some}
 use Rattle.tasks.specs.Below.{any, first}
 use Rattle.tasks.specs.Tables.{task_no, and_then}
-use Rattle.tasks.specs.declared.Answer.{Answer}
-use Rattle.tasks.specs.declared.Answer.TheVariants.{Accepted, Refused}
+use Rattle.tasks.specs.Answers.{Answer}
+use Rattle.tasks.specs.Answers.{Accepted, Refused}
 use Rattle.tasks.specs.declared.Refusal.{Refusal}
 use Rattle.tasks.specs.declared.Refusal.TheVariants.{NotRun, TooSoon, StillActive}
 use Rattle.tasks.specs.declared.TaskNo.{TaskNo}
@@ -13,8 +13,6 @@ use Rattle.jobs.specs.Jobs.{is_active, once_released, names}
 use Rattle.dispatch.specs.States.{job_of, last_of}
 use Rattle.dispatch.specs.Rules.{finish}
 use Rattle.jobs.specs.Sets.{member}
-use Rattle.dispatch.specs.declared.Lowest.{Lowest}
-use Rattle.dispatch.specs.declared.Lowest.TheVariants.{Nobody, Task}
 use Rattle.dispatch.specs.declared.State.{State}
 use Rattle.jobs.specs.declared.Tasks.{Tasks}
 
@@ -31,9 +29,9 @@ abbrev pub still_active : Plan → State → ℕ → Bool
 still_active p s t = is_active (job_of s t).phase && eqb (job_of s t).age (task_of p t).period
 
 -- the lowest task that was found, as a number, or 256 where there is none
-abbrev pub lowest_no : Lowest → ℕ
-lowest_no Nobody = 256
-lowest_no (Task t) = t.0
+abbrev pub lowest_no : Option TaskNo → ℕ
+lowest_no None = 256
+lowest_no (Some t) = t.0
 
 -- the refusal for the lowest member of a set that is bad; a task's number is below 256
 unfoldable pub lowest : Tasks → (ℕ → Bool) → (TaskNo → Refusal) → Answer

@@ -11,11 +11,10 @@ use Rattle.plans.specs.declared.Plan.{Plan}
 use Rattle.jobs.specs.Jobs.{no_job, no_run, by_runner, is_active, once_released, names}
 use Rattle.dispatch.specs.States.{job_of, last_of}
 use Rattle.jobs.specs.Sets.{member}
-use Rattle.jobs.specs.declared.CoreRun.{CoreRun}
+use Rattle.jobs.specs.Jobs.{Runner}
 use Rattle.jobs.specs.declared.Job.{Job}
 use Rattle.jobs.specs.declared.Phase.TheVariants.{Active, Ended}
-use Rattle.jobs.specs.declared.Runner.{Runner}
-use Rattle.jobs.specs.declared.Runner.TheVariants.{Idle, Runs}
+use Rattle.jobs.specs.Jobs.{Idle, Runs}
 use Rattle.dispatch.specs.declared.State.{State}
 use Rattle.jobs.specs.declared.Tasks.{Tasks}
 
@@ -86,8 +85,8 @@ highest p s x zero = Idle
 highest p s x (suc k) =
     cond (stands_on p s x k && beats p s k (highest p s x k)) (Runs (task_no k)) (highest p s x k)
 
-abbrev pub chosen : Plan → State → ℕ → CoreRun
-chosen p s x = record { runner = highest p s x p.count }
+abbrev pub chosen : Plan → State → ℕ → Runner
+chosen p s x = highest p s x p.count
 
 -- task i is the one chosen on the core of its piece
 abbrev pub runs_now : Plan → State → ℕ → Bool

@@ -3,8 +3,8 @@ use Rattle.std.specs.Prelude.{◌≡◌, Bool, ◌&&◌, ℕ, ◌≤◌, ◌<◌
 use Rattle.plans.specs.declared.Plan.{Plan}
 use Rattle.jobs.specs.Jobs.{no_job, no_run}
 use Rattle.jobs.specs.declared.Job.{Job}
-use Rattle.jobs.specs.declared.Runner.{Runner}
-use Rattle.jobs.specs.declared.Runner.TheVariants.{Idle}
+use Rattle.jobs.specs.Jobs.{Runner}
+use Rattle.jobs.specs.Jobs.{Idle}
 use Rattle.jobs.specs.WellMade.{jobs_well_made, cores_well_made}
 use Rattle.dispatch.specs.declared.State.{State}
 
@@ -13,7 +13,7 @@ job_of s i = get_or s.jobs i no_job
 
 -- the task run on core x in the last tick, or none
 abbrev pub last_of : State → ℕ → Runner
-last_of s x = (get_or s.last x no_run).runner
+last_of s x = get_or s.last x no_run
 
 -- a fresh state has nothing released and zeros
 abbrev pub fresh_state : State

@@ -1,11 +1,12 @@
 -- A worked example, and the test that it holds of the definitions.
-use Rattle.std.specs.Prelude.{Bool, true, false, not, ◌&&◌, cond, List, [], ◌∷◌, ℕ, ◌+◌, ◌-◌, eqb, length, get_or}
+use Rattle.std.specs.Prelude.{Bool, true, false, not, ◌&&◌, cond, List, [], ◌∷◌, ℕ, ◌+◌, ◌-◌, eqb, length, get_or, Result, Ok, Err}
 use Rattle.std.proofs.Math.Option.{Option, none, some}
 use Rattle.tasks.specs.Below.{tabulate}
 use Rattle.tasks.specs.Refusals.{Told, place, task, given, needed, nothing, number, tells}
 use Rattle.tasks.specs.Tables.{no_task, task_no, checked_table}
-use Rattle.tasks.specs.declared.Answer.{Answer}
-use Rattle.tasks.specs.declared.Answer.TheVariants.{Accepted, Refused}
+use Rattle.tasks.specs.Answers.{Answer}
+use Rattle.tasks.specs.Answers.{Accepted, Refused}
+use Rattle.tasks.specs.declared.Refusal.{Refusal}
 use Rattle.tasks.specs.declared.Table.{Table}
 use Rattle.tasks.specs.declared.Task.{Task}
 use Rattle.plans.specs.Interference.{interference}
@@ -16,12 +17,11 @@ use Rattle.plans.specs.declared.Plan.{Plan}
 use Rattle.bounds.specs.Bound.{local_deadline, bound}
 use Rattle.planner.specs.Layout.{planned}
 use Rattle.planner.specs.Limit.{allowance}
-use Rattle.planner.specs.declared.Planned.{Planned}
 use Rattle.jobs.specs.Jobs.{no_job, no_run, by_runner}
-use Rattle.jobs.specs.declared.CoreRun.{CoreRun}
+use Rattle.jobs.specs.Jobs.{Runner}
 use Rattle.jobs.specs.declared.Job.{Job}
 use Rattle.jobs.specs.declared.Phase.TheVariants.{Active}
-use Rattle.jobs.specs.declared.Runner.TheVariants.{Runs}
+use Rattle.jobs.specs.Jobs.{Runs}
 use Rattle.dispatch.specs.States.{job_of, fresh_state}
 use Rattle.fullrate.specs.Allowed.{no_tasks, allowed_set}
 use Rattle.dispatch.specs.Tick.{tick}
@@ -116,8 +116,8 @@ accepted Accepted = true
 accepted (Refused r) = false
 
 -- the tasks on the cores
-abbrev shown_row : ℕ → List CoreRun → List (Option ℕ)
-shown_row m rs = tabulate m (λ x. by_runner (get_or rs x no_run).runner none (λ i. some i))
+abbrev shown_row : ℕ → List Runner → List (Option ℕ)
+shown_row m rs = tabulate m (λ x. by_runner (get_or rs x no_run) none (λ i. some i))
 
 -- a tick is accepted, its answer names these tasks, and the next state has them as those run last
 abbrev ran_in : ℕ → Ticked → List (Option ℕ) → Bool
@@ -135,13 +135,18 @@ is_number n Accepted = false
 is_number n (Refused r) = eqb (number r) n
 
 -- the refusal of number n, which tells this
-abbrev refused_as : (Told → Option ℕ) → ℕ → ℕ → Answer → Bool
-refused_as told n i Accepted = false
-refused_as told n i (Refused r) = eqb (number r) n && same_option (told (tells r)) (some i)
+abbrev refused_as : {A : Type 0} → (Told → Option ℕ) → ℕ → ℕ → Result A Refusal → Bool
+refused_as told n i (Ok x) = false
+refused_as told n i (Err r) = eqb (number r) n && same_option (told (tells r)) (some i)
+
+-- the planner makes a plan, of which this holds
+abbrev planned_so : Result Plan Refusal → (Plan → Bool) → Bool
+planned_so (Ok p) f = f p
+planned_so (Err r) f = false
 
 -- a task alone on a core, whose one piece has local deadline D and margin m
-abbrev alone : ℕ → ℕ → Plan
-alone m D = (planned (table_of 1 (timed (D - m) D D ∷ []))).plan
+abbrev alone : ℕ → ℕ → Table
+alone m D = table_of 1 (timed (D - m) D D ∷ [])
 
 abbrev has_margin : Plan → ℕ → ℕ → Bool
 has_margin w m D = eqb (local_deadline (task_of w) (piece_of w) 0) D && eqb (bound (task_of w) (piece_of w) w.placed 0 + m) D
@@ -150,9 +155,9 @@ has_margin w m D = eqb (local_deadline (task_of w) (piece_of w) 0) D && eqb (bou
 abbrev pub at : (age piece ran : ℕ) → Job
 at a k r = record { phase = Active; late = false; piece = k; age = a; ran = r }
 
-abbrev last_run : Option ℕ → CoreRun
+abbrev last_run : Option ℕ → Runner
 last_run none = no_run
-last_run (some i) = record { runner = Runs (task_no i) }
+last_run (some i) = Runs (task_no i)
 
 -- a state with these jobs, these tasks last on the cores, and these totals
 abbrev state_of : List Job → List (Option ℕ) → ℕ → ℕ → State
@@ -174,15 +179,16 @@ tick_from p s = tick p s no_tasks no_tasks
 
 unfoldable pub holds : Example → Bool
 holds (interferes e p L v) = eqb (interference e p L) v
-holds (allows m D p v) = has_margin (alone m D) m D && eqb (allowance (alone m D) p 0) v
-holds (lays m ts ls) = let r : Planned = planned (table_of m ts) in accepted r.answer && same_list same_line (listing r.plan) ls
-holds (refuses m ts n i) = refused_as task_told n i (planned (table_of m ts)).answer
+holds (allows m D p v) = planned_so (planned (alone m D)) (λ w. has_margin w m D && eqb (allowance w p 0) v)
+holds (lays m ts ls) = planned_so (planned (table_of m ts)) (λ w. same_list same_line (listing w) ls)
+holds (refuses m ts n i) = refused_as task_told n i (planned (table_of m ts))
 holds (judges m count n v) = refused_as given_told n v (checked_table (record { cores = m; count = count; tasks = [] }))
-holds (runs m ts rows late preemptions) = let r : Planned = planned (table_of m ts) in accepted r.answer && ran_as r.plan late preemptions fresh_state rows
+holds (runs m ts rows late preemptions) = planned_so (planned (table_of m ts)) (λ w. ran_as w late preemptions fresh_state rows)
 holds (ticks m ts jobs last late preemptions row marked late' preemptions') =
-    let t : Ticked = tick_from (planned (table_of m ts)).plan (state_of jobs last late preemptions) in
-    ran_in m t row && same_list same_bool (marks (length ts) t.state) marked && eqb t.state.late late' && eqb t.state.preemptions preemptions'
-holds (stops m ts jobs last n) = is_number n (tick_from (planned (table_of m ts)).plan (state_of jobs last 0 0)).answer
+    planned_so (planned (table_of m ts)) (λ w.
+    let t : Ticked = tick_from w (state_of jobs last late preemptions) in
+    ran_in m t row && same_list same_bool (marks (length ts) t.state) marked && eqb t.state.late late' && eqb t.state.preemptions preemptions')
+holds (stops m ts jobs last n) = planned_so (planned (table_of m ts)) (λ w. is_number n (tick_from w (state_of jobs last 0 0)).answer)
 
 -- every example of a list holds
 unfoldable pub all_hold : List Example → Bool

@@ -7,14 +7,15 @@ use Prim.Native.Nat.{ℕ, ◌+◌, ◌≤◌, ◌<◌}
 use native.Mathlib.Decide.{dec_lt}
 use native.Mathlib.Omega.{arith}
 use lib.Dec.{leb, eqb}
+use Rattle.std.specs.Prelude.{Result, Ok}
 use lib.ListN.{length}
 use borrow.Author.Tests.{eqb-false, lt-leb}
 use Rattle.tasks.proofs.Answers.{accepted_not}
 use Rattle.tasks.proofs.Bools.{clash, not_first, not_second}
 use Rattle.tasks.specs.Places.{place_at}
 use Rattle.tasks.specs.Tables.{and_then, checked_tasks}
-use Rattle.tasks.specs.declared.Answer.{Answer}
-use Rattle.tasks.specs.declared.Answer.TheVariants.{Accepted, Refused}
+use Rattle.tasks.specs.Answers.{Answer}
+use Rattle.tasks.specs.Answers.{Accepted, Refused}
 use Rattle.tasks.specs.declared.Refusal.{Refusal}
 use Rattle.tasks.specs.declared.Refusal.TheVariants.{TasksAt, NoPlanShape}
 use Rattle.tasks.specs.declared.Task.{Task}
@@ -27,9 +28,8 @@ use Rattle.files.specs.declared.Default.{Default}
 use Rattle.files.specs.declared.Field.{Field}
 use Rattle.files.specs.declared.Reader.{Reader}
 use Rattle.files.specs.Reading.{begun, moved_to, ended, fields_answer, ended_after, table_ended, plan_ended, clean_plan, table_closed, plan_closed}
-use Rattle.files.specs.declared.ReadPlan.{ReadPlan}
 use Rattle.files.specs.Files.{table_read, plan_read}
-use Rattle.files.specs.Grammar.{default_cores, refusal, table_answered, plan_answered, filled_to, fields_of, start, judged, tasks_in, pieces_in, kinds_fit, cores_in, tasks_end, record_in, some_task, fields_good, shape_good, table_said, plan_said}
+use Rattle.files.specs.Grammar.{default_cores, refusal, answered, table_of, filled_to, fields_of, start, judged, tasks_in, pieces_in, kinds_fit, cores_in, tasks_end, record_in, some_task, fields_good, shape_good, table_said, plan_said}
 use Rattle.files.proofs.FirstBad.{positive}
 use Rattle.files.proofs.GoodFields.{table_good, tasks_few, no_piece_lem}
 use Rattle.files.proofs.Clean.{record_clean}
@@ -72,6 +72,11 @@ some_task_lem fs h = go _ refl h
     go true e q = accepted_not q
     go false e q = positive (length (tasks_in fs)) (eqb-false (length (tasks_in fs)) 0 e)
 
+-- of a record that is clean if it is accepted the very record is given, or its table
+given_clean : {A : Type 0} (part : Plan → A) (a : Answer) (p : Plan) → (a ≡ Accepted → clean_plan p ≡ p) → answered a (part (clean_plan p)) ≡ answered a (part p)
+given_clean part Accepted p h = ap (λ (q : Plan). Ok (part q)) (h refl)
+given_clean part (Refused x) p h = refl
+
 -- ---- a table file
 
 -- a refusal of the fields is the table file's
@@ -84,26 +89,21 @@ table_left : (f : Field) (p : Plan) → f.pieces ≡ false → p.placed ≡ 0 �
 unfolding table_ended
 table_left f p h k = rw (h, k)
 
--- of a record that is clean if it is accepted the very record is given
-table_clean : (a : Answer) (p : Plan) → (a ≡ Accepted → clean_plan p ≡ p) → table_answered a (clean_plan p) ≡ table_answered a p
-table_clean Accepted p h = ap (table_answered Accepted) (h refl)
-table_clean (Refused x) p h = refl
-
 -- every table file is read as document 01 says
 pub table_as_said : (d : Default) (s : List ℕ) → Fits s → table_read d s ≡ table_said d s
 unfolding table_read table_closed table_said
 table_as_said d s lent = go (start_read d false s lent)
   where
     go : FieldsRead false 0 0 false (default_cores d) [] [] (fields_of s) (read (begun d false) s)
-        → table_answered (table_ended (read (begun d false) s).field (read (begun d false) s).plan) (clean_plan (read (begun d false) s).plan) ≡ table_answered (fields_good false (fields_of s)) (record_in d (fields_of s))
+        → answered (table_ended (read (begun d false) s).field (read (begun d false) s).plan) (table_of (clean_plan (read (begun d false) s).plan)) ≡ answered (fields_good false (fields_of s)) (table_of (record_in d (fields_of s)))
     go (inl b) =
         let j : judged false start 0 (fields_of s) ≡ Refused (refusal b.number b.place) = b.is in
         let q : table_ended (read (begun d false) s).field (read (begun d false) s).plan ≡ Refused (refusal b.number b.place) = table_refused (read (begun d false) s).field (read (begun d false) s).plan (refusal b.number b.place) (b.refuses (read (begun d false) s).plan.count) in
         rw (q, j)
     go (inr b) =
-        ap (λ (a : Answer). table_answered a (clean_plan (read (begun d false) s).plan)) ended_is
-        ∙ ap (λ (p : Plan). table_answered (some_task (fields_of s)) (clean_plan p)) plan_is
-        ∙ table_clean (some_task (fields_of s)) (record_in d (fields_of s)) (λ h. record_clean (cores_in d (fields_of s)) (tasks_in (fields_of s)) (pieces_in (fields_of s)) (tasks_few false (fields_of s) j) (omega (arith, ap length none.0)))
+        ap (λ (a : Answer). answered a (table_of (clean_plan (read (begun d false) s).plan))) ended_is
+        ∙ ap (λ (p : Plan). answered (some_task (fields_of s)) (table_of (clean_plan p))) plan_is
+        ∙ given_clean table_of (some_task (fields_of s)) (record_in d (fields_of s)) (λ h. record_clean (cores_in d (fields_of s)) (tasks_in (fields_of s)) (pieces_in (fields_of s)) (tasks_few false (fields_of s) j) (omega (arith, ap length none.0)))
         ∙ rw j
       where
         j : judged false start 0 (fields_of s) ≡ Accepted
@@ -167,23 +167,18 @@ table_checked : (p : Plan) → checked_tasks p.cores p.count (task_of p) ≡ Acc
 unfolding checked_plan
 table_checked p h = rw h
 
--- of a record that is clean if it is accepted the very record is given
-plan_clean : (a : Answer) (p : Plan) → (a ≡ Accepted → clean_plan p ≡ p) → plan_answered a (clean_plan p) ≡ plan_answered a p
-plan_clean Accepted p h = ap (plan_answered Accepted) (h refl)
-plan_clean (Refused x) p h = refl
-
 -- every plan file is read as document 01 says
 pub plan_as_said : (d : Default) (s : List ℕ) → Fits s → plan_read d s ≡ plan_said d s
 unfolding plan_read plan_closed plan_said
 plan_as_said d s lent = go (start_read d true s lent)
   where
-    said : Answer → ReadPlan
-    said a = plan_answered (and_then a (shape_good (fields_of s) (record_in d (fields_of s)))) (record_in d (fields_of s))
+    said : Answer → Result Plan Refusal
+    said a = answered (and_then a (shape_good (fields_of s) (record_in d (fields_of s)))) (record_in d (fields_of s))
 
-    refused : (x : Refusal) (p : Plan) → ended_after (read (begun d true) s).field (read (begun d true) s).plan.count ≡ Refused x → plan_answered (plan_ended (read (begun d true) s).field (read (begun d true) s).plan) p ≡ said (Refused x)
-    refused x p h = ap (λ (a : Answer). plan_answered a p) (field_refused (read (begun d true) s).field (read (begun d true) s).plan x h)
+    refused : (x : Refusal) (p : Plan) → ended_after (read (begun d true) s).field (read (begun d true) s).plan.count ≡ Refused x → answered (plan_ended (read (begun d true) s).field (read (begun d true) s).plan) p ≡ said (Refused x)
+    refused x p h = ap (λ (a : Answer). answered a p) (field_refused (read (begun d true) s).field (read (begun d true) s).plan x h)
 
-    go : FieldsRead true 0 0 false (default_cores d) [] [] (fields_of s) (read (begun d true) s) → plan_answered (plan_ended (read (begun d true) s).field (read (begun d true) s).plan) (clean_plan (read (begun d true) s).plan) ≡ said (fields_good true (fields_of s))
+    go : FieldsRead true 0 0 false (default_cores d) [] [] (fields_of s) (read (begun d true) s) → answered (plan_ended (read (begun d true) s).field (read (begun d true) s).plan) (clean_plan (read (begun d true) s).plan) ≡ said (fields_good true (fields_of s))
     go (inl b) =
         let j : judged true start 0 (fields_of s) ≡ Refused (refusal b.number b.place) = b.is in
         refused (refusal b.number b.place) (clean_plan (read (begun d true) s).plan) (b.refuses (read (begun d true) s).plan.count) ∙ rw j
@@ -215,21 +210,21 @@ plan_as_said d s lent = go (start_read d true s lent)
             few (no l) = omega arith
 
         -- the reader is spoilt exactly where a kind or the number of pieces is bad
-        shaped : (w : Bool) → t.spoilt ≡ w → some_task (fields_of s) ≡ Accepted → plan_answered (plan_ended (read (begun d true) s).field (read (begun d true) s).plan) (clean_plan (read (begun d true) s).plan) ≡ said Accepted
+        shaped : (w : Bool) → t.spoilt ≡ w → some_task (fields_of s) ≡ Accepted → answered (plan_ended (read (begun d true) s).field (read (begun d true) s).plan) (clean_plan (read (begun d true) s).plan) ≡ said Accepted
         shaped true q h =
             let m : (read (begun d true) s).field.misshapen ≡ true = ap (λ (x : Reader). x.field.misshapen) t.is ∙ q in
             let a : plan_ended (read (begun d true) s).field (read (begun d true) s).plan ≡ Refused NoPlanShape = left (ends ∙ h) ∙ rw m in
-            ap (λ (x : Answer). plan_answered x (clean_plan (read (begun d true) s).plan)) a ∙ rw (spoilt_shape (fields_of s) (record_in d (fields_of s)) refl (t.spoils q))
+            ap (λ (x : Answer). answered x (clean_plan (read (begun d true) s).plan)) a ∙ rw (spoilt_shape (fields_of s) (record_in d (fields_of s)) refl (t.spoils q))
         shaped false q h =
             let m : (read (begun d true) s).field.misshapen ≡ false = ap (λ (x : Reader). x.field.misshapen) t.is ∙ q in
             let z : t.taken ≡ pieces_in (fields_of s) = (t.plain q).1.0 in
             let p : (read (begun d true) s).plan ≡ record_in d (fields_of s) = ap (λ (x : Reader). x.plan) t.is ∙ rw (z, cores_is d (fields_of s)) in
             let a : plan_ended (read (begun d true) s).field (read (begun d true) s).plan ≡ shape_good (fields_of s) (record_in d (fields_of s)) = left (ends ∙ h) ∙ rw (m, p) (checked h ∙ rw (t.plain q).1.1) in
-            ap (λ (x : Answer). plan_answered x (clean_plan (read (begun d true) s).plan)) a ∙ ap (λ (x : Plan). plan_answered (shape_good (fields_of s) (record_in d (fields_of s))) (clean_plan x)) p ∙ plan_clean (shape_good (fields_of s) (record_in d (fields_of s))) (record_in d (fields_of s)) clean
+            ap (λ (x : Answer). answered x (clean_plan (read (begun d true) s).plan)) a ∙ ap (λ (x : Plan). answered (shape_good (fields_of s) (record_in d (fields_of s))) (clean_plan x)) p ∙ given_clean (λ (p : Plan). p) (shape_good (fields_of s) (record_in d (fields_of s))) (record_in d (fields_of s)) clean
 
         fields_are : (a : Answer) → some_task (fields_of s) ≡ a → fields_good true (fields_of s) ≡ a
         fields_are a q = rw j q
 
-        answer : (a : Answer) → some_task (fields_of s) ≡ a → plan_answered (plan_ended (read (begun d true) s).field (read (begun d true) s).plan) (clean_plan (read (begun d true) s).plan) ≡ said (fields_good true (fields_of s))
+        answer : (a : Answer) → some_task (fields_of s) ≡ a → answered (plan_ended (read (begun d true) s).field (read (begun d true) s).plan) (clean_plan (read (begun d true) s).plan) ≡ said (fields_good true (fields_of s))
         answer Accepted q = shaped _ refl q ∙ ap said (sym (fields_are _ q))
         answer (Refused x) q = refused x (clean_plan (read (begun d true) s).plan) (ends ∙ q) ∙ ap said (sym (fields_are _ q))

@@ -1,9 +1,13 @@
 -- Clean records: 0 past their counts.
 use mathlib.Core.Path.{◌≡◌, refl, sym, ap, ◌∙◌}
 use mathlib.Core.List.{List}
-use Prim.Native.Nat.{ℕ, min, ◌≤◌}
+use Prim.Native.Nat.{ℕ, ◌-◌, ◌<◌, ◌≤◌}
 use native.Mathlib.Omega.{arith}
-use lib.ListN.{length, get_or, get_or-eq_default}
+use lib.ListN.{length, get_or, take, replicate, get_or-eq_default, length-replicate}
+use lib.Seq.{length-take-le}
+use borrow.Rule.Slice.PartMut.{mid_of, put_mid, mid_len, same_len_mid}
+use Rattle.std.proofs.lemmas.List.{get_or_append_left, get_or-append_right, get_or-take}
+use Rattle.tasks.proofs.Tabulate.{replicate_at}
 use Rattle.tasks.proofs.Padded.{padded_length, padded_in, padded_out, padded_is, padded_same}
 use Rattle.tasks.specs.Below.{padded}
 use Rattle.tasks.specs.Tables.{no_task}
@@ -16,13 +20,31 @@ use Rattle.files.specs.Reading.{clean_plan}
 use Rattle.files.proofs.Filled.{filled_get, filled_length}
 
 module _ {A : Type 0} (size : ℕ) (empty : A) (n : ℕ) (f : ℕ → A) where
-  -- a list whose first entries were stored, as many as there are or as it holds, has them all
-  pub padded_whole : (k : ℕ) (xs : List A) → xs ≡ padded size k empty f → k ≡ min n size → xs ≡ padded size n empty f
-  padded_whole k xs e h = e ∙ padded_is size empty n f (padded size k empty f) (padded_length size empty k f) (λ i l b. padded_in size empty k f i (omega arith) b) (λ i l b. padded_out size empty k f i (omega arith))
-
   -- a clean list is cleaned to itself
   pub padded_again : padded size n empty (λ i. get_or (padded size n empty f) i empty) ≡ padded size n empty f
   padded_again = sym (padded_is size empty n (λ i. get_or (padded size n empty f) i empty) (padded size n empty f) (padded_length size empty n f) (λ i l b. refl) (λ i l b. padded_out size empty n f i l))
+
+-- a list of which what is behind the first n entries was emptied
+pub padded_emptied : {A : Type 0} (size : ℕ) (empty : A) (n : ℕ) (xs ys : List A) → length xs ≡ size → n ≤ size → ys ≡ replicate (length (mid_of n (size - n) xs)) empty → put_mid n (size - n) xs ys ≡ padded size n empty (λ i. get_or xs i empty)
+padded_emptied {A = A} size empty n xs ys e h q = padded_is size empty n (λ i. get_or xs i empty) (put_mid n (size - n) xs ys) (same_len_mid n (size - n) xs ys long ∙ e) kept emptied
+  where
+    long : length ys ≡ length (mid_of n (size - n) xs)
+    long = ap length q ∙ length-replicate _ empty
+
+    front : length (take n xs) ≡ n
+    front = length-take-le n xs (omega (arith, e))
+
+    middle : length (mid_of n (size - n) xs) ≡ size - n
+    middle = mid_len n size xs (omega (arith, e))
+
+    kept : (i : ℕ) → i < n → i < size → get_or (put_mid n (size - n) xs ys) i empty ≡ get_or xs i empty
+    kept i l b = get_or_append_left (take n xs) _ empty i (omega (arith, front)) ∙ get_or-take n xs i empty l
+
+    emptied : (i : ℕ) → n ≤ i → i < size → get_or (put_mid n (size - n) xs ys) i empty ≡ empty
+    emptied i l b =
+        get_or-append_right (take n xs) _ n i empty front l
+        ∙ get_or_append_left ys _ empty (i - n) (omega (arith, long, middle))
+        ∙ ap (λ (zs : List A). get_or zs (i - n) empty) q ∙ replicate_at _ (i - n) empty
 
 -- a clean plan is cleaned to itself
 pub clean_plan_is : (p : Plan) → CleanPlan p → length p.tasks ≡ 64 → length p.pieces ≡ 128 → clean_plan p ≡ p

@@ -8,10 +8,10 @@ use lib.ListN.{get_or}
 use lib.Seq.{get_or-take}
 use borrow.Author.Tests.{eq-eqb}
 use Rattle.tasks.specs.Refusals.{number}
-use Rattle.tasks.specs.declared.Answer.TheVariants.{Refused}
+use Rattle.tasks.specs.Answers.{Refused}
 use Rattle.tasks.specs.declared.Refusal.{Refusal}
 use Rattle.files.specs.Files.{table_read, plan_read, answer_to}
-use Rattle.files.specs.Grammar.{field_length, cut, fields_of, cores_in, table_said, plan_said}
+use Rattle.files.specs.Grammar.{answer_of, field_length, cut, fields_of, cores_in, table_said, plan_said}
 use Rattle.files.specs.declared.Default.{Default}
 use Rattle.files.proofs.Exactly.{Exactly}
 use Rattle.files.proofs.AsSaid.{Fits, table_as_said, plan_as_said}
@@ -19,7 +19,7 @@ use Rattle.files.proofs.FileAnswers.{table_answer, by_fields}
 
 module _ (c d : Default) (s : List ℕ) (lent : Fits s) where
   -- a table file gets one answer, whatever the default
-  pub answered_alike : (table_read c s).answer ≡ (table_read d s).answer
+  pub answered_alike : answer_of (table_read c s) ≡ answer_of (table_read d s)
   answered_alike = table_answer c s lent ∙ sym (table_answer d s lent)
 
   -- any file gets each refusal but 8 under both or under none

@@ -8,7 +8,7 @@ use native.Mathlib.Omega.{arith}
 use lib.ListN.{length}
 use borrow.Author.Tests.{eq-eqb, ne_eqb}
 use Rattle.tasks.proofs.Bools.{or_false, right_one}
-use Rattle.tasks.specs.declared.Answer.TheVariants.{Accepted}
+use Rattle.tasks.specs.Answers.{Accepted}
 use Rattle.files.specs.Grammar.{Before, tag_of, start, behind, fault, judged, tasks_in, pieces_in}
 use Rattle.files.specs.Rules.{behind_all}
 use Rattle.files.proofs.Exactly.{Exactly}

@@ -9,12 +9,11 @@ use native.Mathlib.Omega.{arith}
 use lib.Dec.{ltb, leb, eqb}
 use lib.ListN.{length, get_or, set, drop, drop_of_length-le}
 use lib.Seq.{drop-cons}
-use borrow.Author.Tests.{leb-false, ltb-true, ltb-false, eqb-true, eqb-false, eq-eqb, ne_eqb, lt-ltb, le-ltb, not-true}
-use Rattle.tasks.proofs.Bools.{both, clash, or_false}
+use borrow.Author.Tests.{leb-false, ltb-true, eq-eqb, ne_eqb, lt-ltb, le-ltb}
+use Rattle.tasks.proofs.Bools.{both}
 use Rattle.tasks.specs.Places.{further}
-use Rattle.tasks.specs.Tables.{cores_fit, values_fit}
 use Rattle.plans.specs.declared.Plan.{Plan}
-use Rattle.files.specs.Grammar.{number2, length_for, values_fault}
+use Rattle.files.specs.Grammar.{number2, length_for}
 use Rattle.files.specs.Fields.{tag, tag_fits, task_in, piece_in, values, verdict, hold, field_at, piece_taken, next_field, with_cores, with_task, with_piece, added, refused_field, settled, step, read}
 use Rattle.files.specs.declared.Field.{Field}
 use Rattle.files.specs.declared.Reader.{Reader}
@@ -33,79 +32,15 @@ length_most g = go (eqb g 1) (eqb g 2)
     go false true = omega arith
     go false false = omega arith
 
--- a test for each of three tags
-by_tag : (t : ℕ) (x y z : Bool) → (eqb t 1 && x || eqb t 2 && y) || eqb t 3 && z ≡ cond (eqb t 1) x (cond (eqb t 2) y (cond (eqb t 3) z false))
-by_tag t x y z = go (ℕ_discrete t 1) (ℕ_discrete t 2)
-  where
-    last : (b : Bool) → b && z ≡ cond b z false
-    last true = refl
-    last false = refl
-
-    go : Dec (t ≡ 1) → Dec (t ≡ 2) → (eqb t 1 && x || eqb t 2 && y) || eqb t 3 && z ≡ cond (eqb t 1) x (cond (eqb t 2) y (cond (eqb t 3) z false))
-    go (yes a) d = rw a (or_false (x || false) ∙ or_false x)
-    go (no a) (yes b) = rw b (or_false y)
-    go (no a) (no b) = rw (ne_eqb t 1 a, ne_eqb t 2 b) (last (eqb t 3))
-
-pub tags_fit : (f : Field) → (eqb (tag f) 1 && eqb f.place 0 || eqb (tag f) 2 && leb f.place f.end) || eqb (tag f) 3 && f.pieces ≡ tag_fits f
-unfolding tag_fits
-tags_fit f = by_tag (tag f) (eqb f.place 0) (leb f.place f.end) f.pieces
-
--- the values, by the test of the core count and by that of the task
-no_bad : (a b c d : Bool) (x y : ℕ) → a && not c ≡ false → b && not d ≡ false → 0 ≡ cond a (cond c 0 x) (cond b (cond d 0 y) 0)
-no_bad true b true d x y h k = refl
-no_bad true b false d x y h k = clash refl h
-no_bad false true c true x y h k = refl
-no_bad false true c false x y h k = clash refl k
-no_bad false false c d x y h k = refl
-
-module _ (f : Field) where
-  pub cores_bad : eqb (tag f) 1 && not (cores_fit (get_or f.bytes 3 0)) ≡ true → 4 ≡ values f
-  unfolding values_fault
-  cores_bad h =
-      let k : (eqb (tag f) 1 ≡ true) × (not (cores_fit (get_or f.bytes 3 0)) ≡ true) = both h in
-      rw (k.0, not-true (cores_fit (get_or f.bytes 3 0)) k.1)
-
-  module _ (fits : Bool) (e : fits ≡ values_fit (task_in f)) where
-    pub task_bad : eqb (tag f) 2 && not fits ≡ true → 5 ≡ values f
-    unfolding values_fault
-    task_bad h =
-        let k : (eqb (tag f) 2 ≡ true) × (not fits ≡ true) = both h in
-        let t : tag f ≡ 2 = eqb-true (tag f) 2 k.0 in
-        rw (ne_eqb (tag f) 1 (λ q. omega arith), k.0, ← e, not-true fits k.1)
-
-    pub values_pass : eqb (tag f) 1 && not (cores_fit (get_or f.bytes 3 0)) ≡ false → eqb (tag f) 2 && not fits ≡ false → 0 ≡ values f
-    unfolding values_fault
-    values_pass h k = rw (← e) (no_bad (eqb (tag f) 1) (eqb (tag f) 2) (cores_fit (get_or f.bytes 3 0)) fits 4 5 h k)
-
--- a field, test after test
-module _ (f : Field) (n : ℕ) where
-  pub header_waits : f.count < 3 → 1 ≡ verdict f n
+-- a field with a good header waits for its body, or is judged by its values
+module _ (f : Field) (n : ℕ) (header : 3 ≤ f.count) (fits : tag_fits f ≡ true) (room : eqb (tag f) 2 && leb 64 n ≡ false) (size : number2 f.bytes 1 ≡ length_for (tag f)) where
+  pub body_waits : f.count < 3 + length_for (tag f) → 1 ≡ verdict f n
   unfolding verdict
-  header_waits h = rw (lt-ltb f.count 3 h)
+  body_waits h = rw (le-ltb f.count 3 header, fits, room, eq-eqb (number2 f.bytes 1) (length_for (tag f)) size, lt-ltb f.count (3 + length_for (tag f)) h)
 
-  module _ (header : 3 ≤ f.count) where
-    pub tag_bad : tag_fits f ≡ false → 2 ≡ verdict f n
-    unfolding verdict
-    tag_bad h = rw (le-ltb f.count 3 header, h)
-
-    module _ (fits : tag_fits f ≡ true) where
-      pub task_past : eqb (tag f) 2 && leb 64 n ≡ true → 6 ≡ verdict f n
-      unfolding verdict
-      task_past h = rw (le-ltb f.count 3 header, fits, h)
-
-      module _ (room : eqb (tag f) 2 && leb 64 n ≡ false) where
-        pub length_bad : (number2 f.bytes 1 ≡ length_for (tag f) → ⊥) → 3 ≡ verdict f n
-        unfolding verdict
-        length_bad h = rw (le-ltb f.count 3 header, fits, room, ne_eqb (number2 f.bytes 1) (length_for (tag f)) h)
-
-        module _ (size : number2 f.bytes 1 ≡ length_for (tag f)) where
-          pub body_waits : f.count < 3 + length_for (tag f) → 1 ≡ verdict f n
-          unfolding verdict
-          body_waits h = rw (le-ltb f.count 3 header, fits, room, eq-eqb (number2 f.bytes 1) (length_for (tag f)) size, lt-ltb f.count (3 + length_for (tag f)) h)
-
-          pub body_whole : 3 + length_for (tag f) ≤ f.count → values f ≡ verdict f n
-          unfolding verdict
-          body_whole h = rw (le-ltb f.count 3 header, fits, room, eq-eqb (number2 f.bytes 1) (length_for (tag f)) size, le-ltb f.count (3 + length_for (tag f)) h)
+  pub body_whole : 3 + length_for (tag f) ≤ f.count → values f ≡ verdict f n
+  unfolding verdict
+  body_whole h = rw (le-ltb f.count 3 header, fits, room, eq-eqb (number2 f.bytes 1) (length_for (tag f)) size, le-ltb f.count (3 + length_for (tag f)) h)
 
 -- ---- what follows a good field
 
@@ -178,18 +113,13 @@ hold_bad f b = go (ltb f.count 15)
     go true = refl
     go false = refl
 
--- there is a byte more, and no field was bad
-pub goes_on_lem : (i n b : ℕ) → ltb i n && eqb b 0 ≡ true → (i < n) × (b ≡ 0)
-goes_on_lem i n b h = let t : (ltb i n ≡ true) × (eqb b 0 ≡ true) = both h in (ltb-true i n t.0, eqb-true b 0 t.1)
-
 -- one byte more
 pub read_more : (f : Field) (p : Plan) (s : List ℕ) (i : ℕ) (g : Field) (v : ℕ) (whole : Reader)
-    → ltb i (length s) && eqb f.bad 0 ≡ true → g ≡ hold f (get_or s i 0) → v ≡ verdict g p.count
+    → i < length s → f.bad ≡ 0 → g ≡ hold f (get_or s i 0) → v ≡ verdict g p.count
     → read (reader f p) (drop i s) ≡ whole → read (settled v g p) (drop (i + 1) s) ≡ whole
 unfolding read
-read_more f p s i g v whole h eg ev k =
-    let t : (i < length s) × (f.bad ≡ 0) = goes_on_lem i (length s) f.bad h in
-    rw (ev, eg, add-one) (ap (λ (r : Reader). read r (drop (suc i) s)) (sym (step_good f p (get_or s i 0) t.1)) ∙ (rw (drop-cons s i 0 t.0) at k))
+read_more f p s i g v whole h e eg ev k =
+    rw (ev, eg, add-one) (ap (λ (r : Reader). read r (drop (suc i) s)) (sym (step_good f p (get_or s i 0) e)) ∙ (rw (drop-cons s i 0 h) at k))
 
 -- a field that is neither good nor waiting is refused
 pub settled_bad : (v : ℕ) (f : Field) (p : Plan) → (v ≡ 0 → ⊥) → (v ≡ 1 → ⊥) → settled v f p ≡ reader (refused_field f v) p
@@ -214,11 +144,7 @@ good_room f n h c a = go (ℕ_discrete (tag f) 2) _ refl
     go (yes e) true u = past (ltb f.count 3) (leb f.place f.end) (rw (ne_eqb (tag f) 1 a, eq-eqb (tag f) 2 e, u) at h)
     go (yes e) false u = leb-false 64 n u
 
--- past the end, and after a bad field, nothing is left to read
-pub read_done : (f : Field) (p : Plan) (s : List ℕ) (i : ℕ) → ltb i (length s) && eqb f.bad 0 ≡ false → read (reader f p) (drop i s) ≡ reader f p
+-- past the end nothing is left to read
+pub read_done : (r : Reader) (s : List ℕ) (i : ℕ) → length s ≤ i → read r (drop i s) ≡ r
 unfolding read
-read_done f p s i h = go _ refl
-  where
-    go : (t : Bool) → ltb i (length s) ≡ t → read (reader f p) (drop i s) ≡ reader f p
-    go true u = read_refused f p (drop i s) (eqb-false f.bad 0 (rw u at h))
-    go false u = ap (read (reader f p)) (drop_of_length-le s {i = i} (ltb-false i (length s) u))
+read_done r s i h = ap (read r) (drop_of_length-le s {i = i} h)

@@ -6,46 +6,44 @@ use mathlib.Core.Logic.{◌⊎◌, inl, inr}
 use Prim.Native.Nat.{ℕ, ◌<◌}
 use native.Mathlib.Omega.{arith}
 use lib.Dec.{eqb}
+use Rattle.std.specs.Prelude.{Ok}
 use lib.ListN.{length}
 use borrow.Author.Tests.{eqb-true}
+use Rattle.std.proofs.lemmas.List.{nil_from_length}
 use Rattle.tasks.proofs.Answers.{accepted_not, refused_is}
 use Rattle.tasks.specs.Places.{place_at}
 use Rattle.tasks.specs.Refusals.{number, tells, place}
 use Rattle.tasks.specs.Tables.{and_then}
-use Rattle.tasks.specs.declared.Answer.{Answer}
-use Rattle.tasks.specs.declared.Answer.TheVariants.{Accepted, Refused}
+use Rattle.tasks.specs.Answers.{Answer}
+use Rattle.tasks.specs.Answers.{Accepted, Refused}
 use Rattle.tasks.specs.declared.Refusal.{Refusal}
 use Rattle.tasks.specs.declared.Refusal.TheVariants.{TasksAt, NoPlanShape}
-use Rattle.plans.specs.declared.Plan.{Plan}
 use Rattle.files.specs.declared.Default.{Default}
-use Rattle.files.specs.declared.ReadPlan.{ReadPlan}
-use Rattle.files.specs.declared.ReadTable.{ReadTable}
 use Rattle.files.specs.Files.{table_read, plan_read, answer_to}
-use Rattle.files.specs.Grammar.{table_answered, plan_answered, fields_of, start, judged, tasks_in, tasks_end, record_in, some_task, fields_good, shape_fits, shape_good, table_said, plan_said}
+use Rattle.files.specs.Grammar.{answered, answer_of, table_of, fields_of, start, judged, tasks_in, tasks_end, record_in, some_task, fields_good, shape_fits, shape_good, table_said, plan_said}
 use Rattle.files.specs.Rules.{NoTask}
 use Rattle.files.proofs.Exactly.{Exactly}
-use Rattle.files.proofs.Filled.{no_length}
 use Rattle.files.proofs.AsSaid.{Fits, table_as_said, plan_as_said}
 
--- a table file's answer is the one it was answered with
-pub table_has : (a : Answer) (p : Plan) → (table_answered a p).answer ≡ a
-table_has Accepted p = refl
-table_has (Refused x) p = refl
+-- a file's answer is the one it was answered with
+pub answer_is : {A : Type 0} (a : Answer) (x : A) → answer_of (answered a x) ≡ a
+answer_is Accepted x = refl
+answer_is (Refused r) x = refl
 
--- a plan file's answer is the one it was answered with
-pub plan_has : (a : Answer) (p : Plan) → (plan_answered a p).answer ≡ a
-plan_has Accepted p = refl
-plan_has (Refused x) p = refl
+-- what a file gives was accepted, and is what was held for it
+pub given : {A : Type 0} (a : Answer) (x y : A) → answered a x ≡ Ok y → (a ≡ Accepted) × (x ≡ y)
+given Accepted x y h = (refl, cc)
+given (Refused r) x y h = let z : ◌≡◌ {A = ℕ} 0 1 = cc in absurd (omega arith)
 
 -- a table file's answer is its fields'
-pub table_answer : (d : Default) (s : List ℕ) → Fits s → (table_read d s).answer ≡ fields_good false (fields_of s)
+pub table_answer : (d : Default) (s : List ℕ) → Fits s → answer_of (table_read d s) ≡ fields_good false (fields_of s)
 unfolding table_said
-table_answer d s lent = ap (λ (r : ReadTable). r.answer) (table_as_said d s lent) ∙ table_has (fields_good false (fields_of s)) (record_in d (fields_of s))
+table_answer d s lent = ap answer_of (table_as_said d s lent) ∙ answer_is (fields_good false (fields_of s)) (table_of (record_in d (fields_of s)))
 
 -- a plan file's answer is its fields', then the shape's
-pub plan_answer : (d : Default) (s : List ℕ) → Fits s → (plan_read d s).answer ≡ and_then (fields_good true (fields_of s)) (shape_good (fields_of s) (record_in d (fields_of s)))
+pub plan_answer : (d : Default) (s : List ℕ) → Fits s → answer_of (plan_read d s) ≡ and_then (fields_good true (fields_of s)) (shape_good (fields_of s) (record_in d (fields_of s)))
 unfolding plan_said
-plan_answer d s lent = ap (λ (r : ReadPlan). r.answer) (plan_as_said d s lent) ∙ plan_has (and_then (fields_good true (fields_of s)) (shape_good (fields_of s) (record_in d (fields_of s)))) (record_in d (fields_of s))
+plan_answer d s lent = ap answer_of (plan_as_said d s lent) ∙ answer_is (and_then (fields_good true (fields_of s)) (shape_good (fields_of s) (record_in d (fields_of s)))) (record_in d (fields_of s))
 
 -- the shape is refused with 8 only
 shape_eight : (c : Bool) (x : Refusal) → number x < 7 → cond c Accepted (Refused NoPlanShape) ≡ Refused x → ⊥
@@ -85,7 +83,7 @@ by_six o fs k = record { only = λ h. only _ refl h; when = when }
     none g true e h =
         let t : place (tasks_end 0 fs) ≡ place k = ap tells (refused_is {r = TasksAt (place_at (tasks_end 0 fs))} {s = TasksAt (place_at k)} h) in
         let p : tasks_end 0 fs ≡ k = cc in
-        record { good = g; none = no_length (tasks_in fs) (eqb-true (length (tasks_in fs)) 0 e); place = p }
+        record { good = g; none = nil_from_length (tasks_in fs) (eqb-true (length (tasks_in fs)) 0 e); place = p }
     none g false e h = accepted_not (sym h)
 
     only : (a : Answer) → judged o start 0 fs ≡ a → and_then (judged o start 0 fs) (some_task fs) ≡ Refused (TasksAt (place_at k)) → (judged o start 0 fs ≡ Refused (TasksAt (place_at k))) ⊎ NoTask o fs k

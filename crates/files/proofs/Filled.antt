@@ -4,13 +4,9 @@ use mathlib.Core.List.{List, [], ◌∷◌, ◌++◌, append_assoc}
 use Prim.Native.Nat.{ℕ, zero, suc, ◌-◌, ◌≤◌, ◌<◌}
 use native.Mathlib.Omega.{arith}
 use lib.ListN.{length, get_or, set, replicate, length-append, length-replicate}
+use lib.Seq.{set-append_seam}
 use Rattle.tasks.proofs.Tabulate.{replicate_at}
 use Rattle.files.specs.Grammar.{filled_to}
-
--- a list of no length is empty
-pub no_length : {A : Type 0} (xs : List A) → length xs ≡ 0 → xs ≡ []
-no_length [] h = refl
-no_length (x ∷ xs) h = absurd (omega arith)
 
 -- past a list stands what it is filled_to with
 behind_get : {A : Type 0} (d : A) (xs : List A) (n i : ℕ) → get_or (xs ++ replicate n d) i d ≡ get_or xs i d
@@ -28,14 +24,9 @@ pub filled_length : {A : Type 0} (n : ℕ) (d : A) (xs : List A) → length xs �
 unfolding filled_to
 filled_length n d xs h = length-append xs (replicate (n - length xs) d) ∙ omega (arith, length-replicate (n - length xs) d)
 
--- the entry behind a list is set
-set_behind : {A : Type 0} (xs : List A) (y x : A) (ys : List A) → set (xs ++ (y ∷ ys)) (length xs) x ≡ xs ++ (x ∷ ys)
-set_behind [] y x ys = refl
-set_behind (z ∷ xs) y x ys = ap (λ (l : List _). z ∷ l) (set_behind xs y x ys)
-
 -- one entry more
 pub filled_set : {A : Type 0} (n : ℕ) (d : A) (xs : List A) (x : A) → length xs < n → set (filled_to n d xs) (length xs) x ≡ filled_to n d (xs ++ (x ∷ []))
 unfolding filled_to
 filled_set {A} n d xs x h =
     let e : n - length xs ≡ suc (n - length (xs ++ (x ∷ []))) = omega (arith, length-append xs (x ∷ [])) in
-    ap (λ (k : ℕ). set (xs ++ replicate k d) (length xs) x) e ∙ set_behind xs d x (replicate (n - length (xs ++ (x ∷ []))) d) ∙ sym (append_assoc xs (x ∷ []) (replicate (n - length (xs ++ (x ∷ []))) d))
+    ap (λ (k : ℕ). set (xs ++ replicate k d) (length xs) x) e ∙ set-append_seam xs d (replicate (n - length (xs ++ (x ∷ []))) d) x ∙ sym (append_assoc xs (x ∷ []) (replicate (n - length (xs ++ (x ∷ []))) d))

@@ -8,7 +8,7 @@ use native.Mathlib.Omega.{arith}
 use lib.ListN.{length, length-append}
 use borrow.Author.Tests.{eq-eqb, ne_eqb}
 use Rattle.tasks.proofs.Answers.{accepted_not, refused_is}
-use Rattle.tasks.specs.declared.Answer.TheVariants.{Accepted, Refused}
+use Rattle.tasks.specs.Answers.{Accepted, Refused}
 use Rattle.files.specs.Grammar.{refusal, Before, start, behind, fault, judged}
 use Rattle.files.specs.Rules.{behind_all, joined, FirstBad}
 use Rattle.files.proofs.Exactly.{Exactly}

@@ -10,7 +10,7 @@ use borrow.Author.Tests.{eq-eqb, ne_eqb, le-leb}
 use Rattle.tasks.proofs.Bools.{clash, both_make}
 use Rattle.tasks.proofs.Tables.{all_good}
 use Rattle.tasks.specs.Tables.{no_task, cores_fit, values_fit, checked_tasks}
-use Rattle.tasks.specs.declared.Answer.TheVariants.{Accepted}
+use Rattle.tasks.specs.Answers.{Accepted}
 use Rattle.tasks.specs.declared.Task.{Task}
 use Rattle.plans.specs.Pieces.{task_of}
 use Rattle.files.specs.Grammar.{Before, tag_of, default_cores, task_of_field, start, behind, in_place, values_fault, fault, judged, tasks_in, pieces_in, kinds_fit, cores_in, record_in}

@@ -8,7 +8,7 @@ use lib.Dec.{leb, eqb}
 use lib.ListN.{length, length-append}
 use borrow.Author.Tests.{lt-ltb, ne_eqb}
 use Rattle.tasks.proofs.Bools.{not_twice}
-use Rattle.tasks.specs.declared.Answer.TheVariants.{Refused}
+use Rattle.tasks.specs.Answers.{Refused}
 use Rattle.plans.specs.declared.Plan.{Plan}
 use Rattle.files.specs.Fields.{tag_fits, verdict, hold, settled, step, read, refused_field}
 use Rattle.files.specs.declared.Field.{Field}

@@ -2,6 +2,7 @@ pub mod Fields
 pub mod Found
 pub mod Filled
 pub mod Clean
+pub mod Ends
 pub mod Holding
 pub mod OneField
 pub mod Named

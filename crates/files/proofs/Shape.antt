@@ -11,13 +11,13 @@ use Rattle.tasks.proofs.Answers.{accepted_not, refused_is, both_accepted, met}
 use Rattle.tasks.specs.Places.{place_at}
 use Rattle.tasks.specs.Refusals.{nothing, number, Refuses}
 use Rattle.tasks.specs.Tables.{and_then}
-use Rattle.tasks.specs.declared.Answer.{Answer}
-use Rattle.tasks.specs.declared.Answer.TheVariants.{Accepted, Refused}
+use Rattle.tasks.specs.Answers.{Answer}
+use Rattle.tasks.specs.Answers.{Accepted, Refused}
 use Rattle.tasks.specs.declared.Refusal.{Refusal}
 use Rattle.tasks.specs.declared.Refusal.TheVariants.{TasksAt, NoPlanShape}
 use Rattle.files.specs.Files.{plan_read}
 use Rattle.files.specs.declared.Default.{Default}
-use Rattle.files.specs.Grammar.{Before, fields_of, start, behind, fault, judged, tasks_in, tasks_end, record_in, some_task, fields_good, shape_fits, shape_good}
+use Rattle.files.specs.Grammar.{Before, answer_of, fields_of, start, behind, fault, judged, tasks_in, tasks_end, record_in, some_task, fields_good, shape_fits, shape_good}
 use Rattle.files.proofs.Exactly.{Exactly, chain}
 use Rattle.files.proofs.Telling.{refusal_number, fault_most, says_shape}
 use Rattle.files.proofs.FirstBad.{positive, judged_good, judged_bad}
@@ -48,21 +48,21 @@ fields_number o fs x h = go _ refl h
 
 module _ (d : Default) (s : List ℕ) (lent : Fits s) where
   -- what good fields with a task have by their shape
-  by_shape : fields_good true (fields_of s) ≡ Accepted → (plan_read d s).answer ≡ shape_good (fields_of s) (record_in d (fields_of s))
+  by_shape : fields_good true (fields_of s) ≡ Accepted → answer_of (plan_read d s) ≡ shape_good (fields_of s) (record_in d (fields_of s))
   by_shape h = plan_answer d s lent ∙ ap (λ (a : Answer). and_then a (shape_good (fields_of s) (record_in d (fields_of s)))) h
 
   -- a plan file is accepted exactly when its fields are good, one is a task, and it has the shape
-  pub plan_accepted : Exactly ((plan_read d s).answer ≡ Accepted) ((fields_good true (fields_of s) ≡ Accepted) × (shape_fits (fields_of s) (record_in d (fields_of s)) ≡ true))
+  pub plan_accepted : Exactly (answer_of (plan_read d s) ≡ Accepted) ((fields_good true (fields_of s) ≡ Accepted) × (shape_fits (fields_of s) (record_in d (fields_of s)) ≡ true))
   plan_accepted = record { only = only; when = λ h. by_shape h.0 ∙ rw h.1 }
     where
-      only : (plan_read d s).answer ≡ Accepted → (fields_good true (fields_of s) ≡ Accepted) × (shape_fits (fields_of s) (record_in d (fields_of s)) ≡ true)
+      only : answer_of (plan_read d s) ≡ Accepted → (fields_good true (fields_of s) ≡ Accepted) × (shape_fits (fields_of s) (record_in d (fields_of s)) ≡ true)
       only h =
           let b : (fields_good true (fields_of s) ≡ Accepted) × (shape_good (fields_of s) (record_in d (fields_of s)) ≡ Accepted) = both_accepted (fields_good true (fields_of s)) (shape_good (fields_of s) (record_in d (fields_of s))) (sym (plan_answer d s lent) ∙ h) in
           (b.0, met (shape_fits (fields_of s) (record_in d (fields_of s))) NoPlanShape b.1)
 
   -- 8: it is refused so exactly when its fields are good, one is a task, and it does not have the shape
-  pub bad_shape : Exactly (Refuses (plan_read d s).answer 8 nothing) ((fields_good true (fields_of s) ≡ Accepted) × (shape_fits (fields_of s) (record_in d (fields_of s)) ≡ false))
-  bad_shape = chain (says_shape (plan_read d s).answer) (record { only = λ h. only _ refl (sym (plan_answer d s lent) ∙ h); when = λ h. by_shape h.0 ∙ rw h.1 })
+  pub bad_shape : Exactly (Refuses (answer_of (plan_read d s)) 8 nothing) ((fields_good true (fields_of s) ≡ Accepted) × (shape_fits (fields_of s) (record_in d (fields_of s)) ≡ false))
+  bad_shape = chain (says_shape (answer_of (plan_read d s))) (record { only = λ h. only _ refl (sym (plan_answer d s lent) ∙ h); when = λ h. by_shape h.0 ∙ rw h.1 })
     where
       fails : (c : Bool) → cond c Accepted (Refused NoPlanShape) ≡ Refused NoPlanShape → c ≡ false
       fails true q = accepted_not (sym q)

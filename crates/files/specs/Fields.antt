@@ -1,12 +1,14 @@
 -- Fields as a reader takes them: byte after byte, each field judged as its bytes come in, and the first bad field decides.
 -- A file that comes in parts is read as the whole is: `read` goes on from any reader.
-use Rattle.std.specs.Prelude.{Bool, true, false, not, ◌&&◌, cond, List, [], ◌∷◌, ℕ, ◌+◌, leb, ltb, eqb, get_or, set, replicate}
+use Rattle.std.specs.Prelude.{Bool, true, false, not, ◌&&◌, cond, List, [], ◌∷◌, ℕ, ◌+◌, leb, ltb, eqb, get_or, set, replicate, Option, Some, None, ◌≡◌}
 use Rattle.tasks.specs.Places.{further}
 use Rattle.tasks.specs.declared.Task.{Task}
 use Rattle.plans.specs.declared.Piece.{Piece}
 use Rattle.plans.specs.declared.Plan.{Plan}
 use Rattle.files.specs.Grammar.{number2, tag_of, length_for, task_of_field, piece_of_field, values_fault}
 use Rattle.files.specs.declared.Field.{Field}
+use Rattle.files.specs.declared.Tag.{Tag}
+use Rattle.files.specs.declared.Tag.TheVariants as names
 use Rattle.files.specs.declared.Reader.{Reader}
 
 -- ---- the field being read
@@ -14,6 +16,17 @@ use Rattle.files.specs.declared.Reader.{Reader}
 -- the first byte
 abbrev pub tag : Field → ℕ
 tag f = tag_of f.bytes
+
+-- the tags
+abbrev pub tag_no : Tag → ℕ
+tag_no names.Cores = 1
+tag_no names.Task = 2
+tag_no names.Piece = 3
+
+-- this number's tag, or none where it is not known
+abbrev pub IsTag : Option Tag → ℕ → Type 0
+IsTag (Some t) g = g ≡ tag_no t
+IsTag None g = (g ≡ 1 → ⊥) × (g ≡ 2 → ⊥) × (g ≡ 3 → ⊥)
 
 -- a core count only as the first field; a task only before any piece; a piece only in plan files
 unfoldable pub tag_fits : Field → Bool

@@ -1,11 +1,12 @@
 -- Table and plan files: fields in a row; the first bad field decides, no task comes after the fields, and the shape comes last.
-use Rattle.std.specs.Prelude.{Bool, true, false, not, ◌&&◌, ◌||◌, cond, List, [], ◌∷◌, ◌++◌, ℕ, zero, suc, ◌+◌, ◌-◌, ◌*◌, leb, ltb, eqb, length, get_or, take, drop, replicate}
+use Rattle.std.specs.Prelude.{Bool, true, false, not, ◌&&◌, ◌||◌, cond, List, [], ◌∷◌, ◌++◌, ℕ, zero, suc, ◌+◌, ◌-◌, ◌*◌, leb, ltb, eqb, length, get_or, take, drop, replicate, Result, Ok, Err}
 use Rattle.tasks.specs.Places.{place_at}
 use Rattle.tasks.specs.Tables.{no_task, task_no, core_no, cores_fit, values_fit, and_then}
-use Rattle.tasks.specs.declared.Answer.{Answer}
-use Rattle.tasks.specs.declared.Answer.TheVariants.{Accepted, Refused}
+use Rattle.tasks.specs.Answers.{Answer}
+use Rattle.tasks.specs.Answers.{Accepted, Refused}
 use Rattle.tasks.specs.declared.Refusal.{Refusal}
 use Rattle.tasks.specs.declared.Refusal.TheVariants.{CutShort, WrongTag, WrongLength, CoresAt, ValuesAt, TasksAt, NoPlanShape}
+use Rattle.tasks.specs.declared.Table.{Table}
 use Rattle.tasks.specs.declared.Task.{Task}
 use Rattle.plans.specs.Pieces.{no_piece, task_of, piece_of}
 use Rattle.plans.specs.Shape.{shape}
@@ -15,8 +16,6 @@ use Rattle.plans.specs.declared.Piece.{Piece}
 use Rattle.plans.specs.declared.Plan.{Plan}
 use Rattle.files.specs.declared.Default.{Default}
 use Rattle.files.specs.declared.Default.TheVariants.{Four, Eight}
-use Rattle.files.specs.declared.ReadPlan.{ReadPlan}
-use Rattle.files.specs.declared.ReadTable.{ReadTable}
 
 -- ---- fields in a row: tag (one byte), length (two bytes), body; all numbers are high byte first
 
@@ -181,20 +180,24 @@ shape_good fs p = cond (shape_fits fs p) Accepted (Refused NoPlanShape)
 abbrev pub empty_plan : ℕ → Plan
 empty_plan m = record { cores = m; count = 0; tasks = replicate 64 no_task; placed = 0; pieces = replicate 128 no_piece }
 
--- a table file so answered: on a refusal the record is all zeros
-abbrev pub table_answered : Answer → Plan → ReadTable
-table_answered Accepted p = record { answer = Accepted; table = record { cores = p.cores; count = p.count; tasks = p.tasks } }
-table_answered (Refused x) p = record { answer = Refused x; table = record { cores = 0; count = 0; tasks = replicate 64 no_task } }
+-- what a file so answered gives: its record, or the refusal
+abbrev pub answered : {A : Type 0} → Answer → A → Result A Refusal
+answered Accepted x = Ok x
+answered (Refused r) x = Err r
 
--- a plan file so answered
-abbrev pub plan_answered : Answer → Plan → ReadPlan
-plan_answered Accepted p = record { answer = Accepted; plan = p }
-plan_answered (Refused x) p = record { answer = Refused x; plan = empty_plan 0 }
+-- and its answer alone
+abbrev pub answer_of : {A : Type 0} → Result A Refusal → Answer
+answer_of (Ok x) = Accepted
+answer_of (Err r) = Refused r
 
--- a table file's answer and record
-unfoldable pub table_said : Default → List ℕ → ReadTable
-table_said d s = table_answered (fields_good false (fields_of s)) (record_in d (fields_of s))
+-- the table of a record
+abbrev pub table_of : Plan → Table
+table_of p = record { cores = p.cores; count = p.count; tasks = p.tasks }
 
--- a plan file's answer and record
-unfoldable pub plan_said : Default → List ℕ → ReadPlan
-plan_said d s = plan_answered (and_then (fields_good true (fields_of s)) (shape_good (fields_of s) (record_in d (fields_of s)))) (record_in d (fields_of s))
+-- what a table file gives
+unfoldable pub table_said : Default → List ℕ → Result Table Refusal
+table_said d s = answered (fields_good false (fields_of s)) (table_of (record_in d (fields_of s)))
+
+-- what a plan file gives
+unfoldable pub plan_said : Default → List ℕ → Result Plan Refusal
+plan_said d s = answered (and_then (fields_good true (fields_of s)) (shape_good (fields_of s) (record_in d (fields_of s)))) (record_in d (fields_of s))

@@ -1,21 +1,21 @@
 -- Reading: a file is read field after field from its start, and where it ends it is answered and its record is given.
-use Rattle.std.specs.Prelude.{Bool, false, not, ◌||◌, cond, ℕ, ltb, eqb}
+use Rattle.std.specs.Prelude.{Bool, false, not, ◌||◌, cond, ℕ, ltb, eqb, Result}
 use Rattle.tasks.specs.Below.{padded}
 use Rattle.tasks.specs.Places.{place_at}
 use Rattle.tasks.specs.Tables.{no_task, checked_tasks, and_then}
-use Rattle.tasks.specs.declared.Answer.{Answer}
-use Rattle.tasks.specs.declared.Answer.TheVariants.{Accepted, Refused}
+use Rattle.tasks.specs.Answers.{Answer}
+use Rattle.tasks.specs.Answers.{Accepted, Refused}
+use Rattle.tasks.specs.declared.Refusal.{Refusal}
+use Rattle.tasks.specs.declared.Table.{Table}
 use Rattle.tasks.specs.declared.Refusal.TheVariants.{WrongTag, NoPlanShape}
 use Rattle.plans.specs.Pieces.{no_piece, task_of, piece_of}
 use Rattle.plans.specs.Shape.{checked_plan}
 use Rattle.plans.specs.declared.Plan.{Plan}
-use Rattle.files.specs.Grammar.{default_cores, refusal, empty_plan, table_answered, plan_answered}
+use Rattle.files.specs.Grammar.{default_cores, refusal, empty_plan, answered, table_of}
 use Rattle.files.specs.Fields.{field_at, refused_field}
 use Rattle.files.specs.declared.Default.{Default}
 use Rattle.files.specs.declared.Field.{Field}
 use Rattle.files.specs.declared.Reader.{Reader}
-use Rattle.files.specs.declared.ReadPlan.{ReadPlan}
-use Rattle.files.specs.declared.ReadTable.{ReadTable}
 
 -- ---- the start
 
@@ -57,9 +57,9 @@ abbrev pub clean_plan : Plan → Plan
 clean_plan p = record { cores = p.cores; count = p.count; tasks = padded 64 p.count no_task (task_of p); placed = p.placed; pieces = padded 128 p.placed no_piece (piece_of p) }
 
 -- a table file that ends here
-unfoldable pub table_closed : Reader → ReadTable
-table_closed r = table_answered (table_ended r.field r.plan) (clean_plan r.plan)
+unfoldable pub table_closed : Reader → Result Table Refusal
+table_closed r = answered (table_ended r.field r.plan) (table_of (clean_plan r.plan))
 
 -- a plan file that ends here
-unfoldable pub plan_closed : Reader → ReadPlan
-plan_closed r = plan_answered (plan_ended r.field r.plan) (clean_plan r.plan)
+unfoldable pub plan_closed : Reader → Result Plan Refusal
+plan_closed r = answered (plan_ended r.field r.plan) (clean_plan r.plan)

@@ -1,7 +1,7 @@
 -- The rules that a field can break, in their order within a field, and the first bad field of a file.
 use Rattle.std.specs.Prelude.{◌≡◌, Bool, true, false, List, [], ◌∷◌, ◌++◌, ◌⊎◌, ℕ, ◌+◌, ◌≤◌, ◌<◌, length, get_or}
 use Rattle.tasks.specs.Tables.{cores_fit, values_fit}
-use Rattle.tasks.specs.declared.Answer.TheVariants.{Accepted}
+use Rattle.tasks.specs.Answers.{Accepted}
 use Rattle.files.specs.Grammar.{Before, start, behind, number2, length_for, tag_of, task_of_field, in_place, judged, tasks_in, tasks_end}
 
 -- ---- rules, of a field f behind the fields before (b), in a plan file if o

@@ -1,17 +1,14 @@
 // The reading of table and plan files: bytes are taken one after another, so that a file may come in parts.
 #![tactic(auto)]
 
-ghost use Rattle.std.specs.Prelude.{◌≡◌, true, false, ◌+◌, ◌≤◌, ◌<◌, get_or, replicate};
-ghost use Rattle.tasks.specs.Below.{padded};
-ghost use Rattle.tasks.specs.Tables.{no_task};
-ghost use Rattle.plans.specs.Pieces.{no_piece};
+ghost use Rattle.std.specs.Prelude.{◌≡◌, true, false, ◌+◌, ◌≤◌, ◌<◌, IfOk, cond, ltb, get_or, Some, None};
 ghost use Rattle.files.specs.Grammar.{number2, number4, length_for, default_cores, kind_of, refusal, empty_plan};
-ghost use Rattle.files.specs.Fields.{tag, task_in, piece_in, values, verdict, hold, next_field, added, read};
-ghost use Rattle.files.specs.Reading.{ended, begun, table_ended, table_closed, plan_ended, plan_closed};
+ghost use Rattle.files.specs.Fields.{tag, tag_no, tag_fits, IsTag, task_in, piece_in, values, verdict, hold, next_field, added, read};
+ghost use Rattle.files.specs.Reading.{ended, begun, ended_after, table_ended, table_closed, plan_ended, plan_closed};
 ghost use Rattle.files.specs.Files.{table_read, plan_read};
 
-use plans::{Kind, Piece, Plan};
-use tasks::{Answer, CoreNo, Place, Refusal, Table, Task, TaskNo};
+use plans::{Kind, NO_PIECE, Piece, Plan};
+use tasks::{CoreNo, NO_TASK, Place, Refusal, Table, Task, TaskNo};
 
 // ---- The fields of a file.
 
@@ -21,6 +18,7 @@ pub struct Field {
     // pieces may stand after all tasks: it is a plan file
     pub pieces: bool,
     // 0 as long as no field was bad; otherwise the number of the first bad one's refusal
+    // a number and no enum, here and in the calls that give it: a reader made by hand may hold any number, and `feed` takes it
     pub bad: usize,
     pub place: usize,
     // the place where the tasks end: the field's own until a piece was read
@@ -39,19 +37,12 @@ pub struct Reader {
     pub plan: Plan,
 }
 
-// A byte as a wider number.
-fn wide(x: u8) -> u32
-    ensures { (result ≡ x) × (result < 256) }
-{
-    x as u32
-}
-
 // The number of two bytes from `i` on.
-fn number2_at(bytes: [u8; 15], i: usize) -> u32
+fn number2_at(bytes: [u8; 15], i: usize) -> u16
     requires { i + 2 ≤ 15 }
-    ensures { (result ≡ number2 bytes i) × (result < 65536) }
+    ensures { result ≡ number2 bytes i }
 {
-    wide(bytes[i]) * 256 + wide(bytes[i + 1])
+    u16::from_be_bytes([bytes[i], bytes[i + 1]])
 }
 
 // The number of four bytes from `i` on.
@@ -59,33 +50,55 @@ fn number4_at(bytes: [u8; 15], i: usize) -> u32
     requires { i + 4 ≤ 15 }
     ensures { result ≡ number4 bytes i }
 {
-    number2_at(bytes, i) * 65536 + number2_at(bytes, i + 2)
+    u32::from_be_bytes([bytes[i], bytes[i + 1], bytes[i + 2], bytes[i + 3]])
 }
 
-// The length that belongs to a tag.
-fn length_for(tag: u8) -> usize
-    ensures { (result ≡ length_for tag) × (result < 13) }
-{
-    if tag == 1 {
-        return 1;
-    }
-    if tag == 2 {
-        return 12;
-    }
-    7
+// What a field names, by its tag.
+#[derive(Clone, Copy, Debug, PartialEq, Eq)]
+enum Tag {
+    Cores,
+    Task,
+    Piece,
 }
 
-// The kind of a byte: 0 whole, 1 share.
-fn kind_of(byte: u8) -> Kind
-    ensures { result ≡ kind_of byte }
-{
-    if byte == 1 {
-        return Kind::Share;
+impl Tag {
+    // The length that belongs to the tag.
+    fn length(self) -> usize
+        ensures { (result ≡ length_for (tag_no self)) × (result < 13) }
+    {
+        match self {
+            Tag::Cores => 1,
+            Tag::Task => 12,
+            Tag::Piece => 7,
+        }
     }
-    Kind::Whole
 }
 
 impl Field {
+    // The tag, if it is known.
+    fn tag(self) -> Option<Tag>
+        ensures { IsTag result (tag self) }
+    {
+        match self.bytes[0] {
+            1 => Some(Tag::Cores),
+            2 => Some(Tag::Task),
+            3 => Some(Tag::Piece),
+            _ => None,
+        }
+    }
+
+    // Is its tag in its order: a core count only as the first field, a task only before any piece, a piece only in plan files?
+    #[tactic(auto, unfolding(crate::specs::Fields::tag_fits))]
+    fn in_order(self, known: Tag) -> bool
+        ensures { tag self ≡ tag_no known → result ≡ tag_fits self }
+    {
+        match known {
+            Tag::Cores => self.place == 0,
+            Tag::Task => self.place <= self.end,
+            Tag::Piece => self.pieces,
+        }
+    }
+
     // The task of a field with tag 2.
     fn task(self) -> Task
         ensures { result ≡ task_in self }
@@ -98,20 +111,26 @@ impl Field {
         }
     }
 
-    // The piece of a field with tag 3.
-    fn piece(self) -> Piece
-        ensures { result ≡ piece_in self }
+    // The piece of a field with tag 3, if its kind is 0 or 1.
+    fn piece(self) -> Option<Piece>
+        ensures { result ≡ cond (ltb (get_or self.bytes 5 0) 2) (Some (piece_in self)) None }
     {
         let bytes = self.bytes;
-        Piece {
+        let kind = match bytes[5] {
+            0 => Kind::Whole,
+            1 => Kind::Share,
+            _ => return None,
+        };
+        Some(Piece {
             task: TaskNo(bytes[3]),
             core: CoreNo(bytes[4]),
-            kind: kind_of(bytes[5]),
+            kind,
             cost: number4_at(bytes, 6),
-        }
+        })
     }
 
     // One more byte of the field.
+    #[tactic(auto, unfolding(crate::specs::Fields::hold))]
     fn hold(mut self, byte: u8) -> Field
         ensures { result ≡ hold self byte }
     {
@@ -119,48 +138,41 @@ impl Field {
         if n < 15 {
             self.bytes[n] = byte;
             self.count = n + 1;
-            return self;
         }
         self
     }
 
     // Values: 4 or 5.
+    #[tactic(auto, unfolding(crate::specs::Grammar::values_fault))]
     fn values(self) -> usize
         ensures { result ≡ values self }
     {
-        let bytes = self.bytes;
-        let tag = bytes[0];
-        let m = bytes[3];
-        if (tag == 1) & !((1 <= m) & (m <= 16)) {
-            return 4;
+        match self.tag() {
+            Some(Tag::Cores) if !(1..=16).contains(&self.bytes[3]) => 4,
+            Some(Tag::Task) if !tasks::values_fit(self.task()) => 5,
+            _ => 0,
         }
-        if (tag == 2) & !tasks::values_fit(self.task()) {
-            return 5;
-        }
-        0
     }
 
     // Header whole (1), tag (2), 65th task (6), length (3), body whole (1), values (4 or 5), after so many tasks.
+    #[tactic(auto, unfolding(crate::specs::Fields::verdict, crate::specs::Fields::tag_fits))]
     fn verdict(self, tasks: usize) -> usize
         ensures { result ≡ verdict self tasks }
     {
         if self.count < 3 {
             return 1;
         }
-        let bytes = self.bytes;
-        let tag = bytes[0];
-        let task = tag == 2;
-        if !((tag == 1) & (self.place == 0)
-            | task & (self.place <= self.end)
-            | (tag == 3) & self.pieces)
-        {
+        let Some(tag) = self.tag() else {
+            return 2;
+        };
+        if !self.in_order(tag) {
             return 2;
         }
-        if task & (64 <= tasks) {
+        if (tag == Tag::Task) & (64 <= tasks) {
             return 6;
         }
-        let length = length_for(tag);
-        if number2_at(bytes, 1) as usize != length {
+        let length = tag.length();
+        if number2_at(self.bytes, 1) as usize != length {
             return 3;
         }
         if self.count < 3 + length {
@@ -170,45 +182,55 @@ impl Field {
     }
 
     // The next field after this good one.
-    fn next(mut self, placed: usize) -> Field
+    #[tactic(auto, unfolding(crate::specs::Fields::next_field, crate::specs::Fields::piece_taken))]
+    fn next(self, placed: usize) -> Field
         ensures { result ≡ next_field self placed }
     {
-        let bytes = self.bytes;
-        self.bad = 0;
-        self.place = tasks::further(self.place, self.count);
-        self.count = 0;
-        self.bytes = [0u8; 15];
-        if bytes[0] == 3 {
-            self.misshapen = self.misshapen | !((bytes[5] < 2) & (placed < 128));
-            return self;
+        let place = tasks::further(self.place, self.count);
+        let mut next = Field {
+            bad: 0,
+            place,
+            count: 0,
+            bytes: [0u8; 15],
+            ..self
+        };
+        if let Some(Tag::Piece) = self.tag() {
+            let taken = self.piece().is_some() & (placed < 128);
+            next.misshapen = self.misshapen | !taken;
+        } else {
+            next.end = place;
         }
-        self.end = self.place;
-        self
+        next
     }
 
     // What is read so far, with this good field added.
+    #[tactic(auto, unfolding(crate::specs::Fields::added, crate::specs::Fields::piece_taken))]
     fn added(self, mut plan: Plan) -> Plan
         requires { (tag self ≡ 3 → ⊥) → (tag self ≡ 1 → ⊥) → plan.count < 64 }
         ensures { result ≡ added self plan }
     {
-        let bytes = self.bytes;
-        let tag = bytes[0];
-        if tag == 3 {
-            let n = plan.placed;
-            if (bytes[5] < 2) & (n < 128) {
-                plan.pieces[n] = self.piece();
-                plan.placed = n + 1;
+        match self.tag() {
+            Some(Tag::Piece) => {
+                let n = plan.placed;
+                if let Some(piece) = self.piece()
+                    && n < 128
+                {
+                    plan.pieces[n] = piece;
+                    plan.placed = n + 1;
+                }
+                plan
             }
-            return plan;
+            Some(Tag::Cores) => {
+                plan.cores = self.bytes[3] as usize;
+                plan
+            }
+            _ => {
+                let n = plan.count;
+                plan.tasks[n] = self.task();
+                plan.count = n + 1;
+                plan
+            }
         }
-        if tag == 1 {
-            plan.cores = bytes[3] as usize;
-            return plan;
-        }
-        let n = plan.count;
-        plan.tasks[n] = self.task();
-        plan.count = n + 1;
-        plan
     }
 }
 
@@ -218,10 +240,11 @@ pub fn feed(reader: Reader, part: &[u8]) -> Reader
 {
     let mut f = reader.field;
     let mut plan = reader.plan;
-    let mut i = 0;
-    while (i < part.len()) & (f.bad == 0) {
-        f = f.hold(part[i]);
-        i += 1;
+    for byte in part {
+        if f.bad != 0 {
+            break;
+        }
+        f = f.hold(*byte);
         let found = f.verdict(plan.count);
         if found == 0 {
             let placed = plan.placed;
@@ -237,64 +260,50 @@ pub fn feed(reader: Reader, part: &[u8]) -> Reader
 // ---- The reader: where it begins, and what the end of a file is answered with.
 
 // How many cores a file is for that does not name its core count. Whoever has a file read states it.
-#[derive(Clone, Copy)]
+#[derive(Clone, Copy, Debug, PartialEq, Eq)]
 pub enum Default {
     Four,
     Eight,
 }
 
-// What a table file is answered with, and its table, which on a refusal is empty.
-#[derive(Clone, Copy)]
-pub struct ReadTable {
-    pub answer: Answer,
-    pub table: Table,
-}
-
-// What a plan file is answered with, and its plan, which on a refusal is empty.
-#[derive(Clone, Copy)]
-pub struct ReadPlan {
-    pub answer: Answer,
-    pub plan: Plan,
+impl Default {
+    // So many cores.
+    fn cores(self) -> usize
+        ensures { result ≡ default_cores self }
+    {
+        match self {
+            Default::Four => 4,
+            Default::Eight => 8,
+        }
+    }
 }
 
 // The refusal of this number, which tells a place.
+#[tactic(auto, unfolding(crate::specs::Grammar::refusal))]
 fn refusal(number: usize, at: usize) -> Refusal
     ensures { result ≡ refusal number at }
 {
     let place = Place(at);
-    if number == 1 {
-        return Refusal::CutShort(place);
+    match number {
+        1 => Refusal::CutShort(place),
+        2 => Refusal::WrongTag(place),
+        3 => Refusal::WrongLength(place),
+        4 => Refusal::CoresAt(place),
+        5 => Refusal::ValuesAt(place),
+        _ => Refusal::TasksAt(place),
     }
-    if number == 2 {
-        return Refusal::WrongTag(place);
-    }
-    if number == 3 {
-        return Refusal::WrongLength(place);
-    }
-    if number == 4 {
-        return Refusal::CoresAt(place);
-    }
-    if number == 5 {
-        return Refusal::ValuesAt(place);
-    }
-    Refusal::TasksAt(place)
 }
 
 // The field where the file ends, after so many tasks: 1 or 6.
+#[tactic(auto, unfolding(crate::specs::Reading::ended))]
 fn ended(mut f: Field, tasks: usize) -> Field
     ensures { result ≡ ended f tasks }
 {
-    if f.bad != 0 {
-        return f;
-    }
-    if 0 < f.count {
+    if f.bad == 0 && 0 < f.count {
         f.bad = 1;
-        return f;
-    }
-    if tasks == 0 {
+    } else if f.bad == 0 && tasks == 0 {
         f.bad = 6;
         f.place = f.end;
-        return f;
     }
     f
 }
@@ -306,42 +315,9 @@ fn empty_plan(cores: usize) -> Plan
     Plan {
         cores,
         count: 0,
-        tasks: no_tasks(),
+        tasks: [NO_TASK; 64],
         placed: 0,
-        pieces: [no_piece(); 128],
-    }
-}
-
-// The piece of all zeros.
-fn no_piece() -> Piece
-    ensures { result ≡ no_piece }
-{
-    Piece {
-        task: TaskNo(0),
-        core: CoreNo(0),
-        kind: Kind::Whole,
-        cost: 0,
-    }
-}
-
-// The tasks of an empty record.
-fn no_tasks() -> [Task; 64]
-    ensures { result ≡ replicate 64 no_task }
-{
-    [Task {
-        cost: 0,
-        deadline: 0,
-        period: 0,
-    }; 64]
-}
-
-// The core count of a default.
-fn default_cores(default: Default) -> usize
-    ensures { result ≡ default_cores default }
-{
-    match default {
-        Default::Four => 4,
-        Default::Eight => 8,
+        pieces: [NO_PIECE; 128],
     }
 }
 
@@ -359,7 +335,7 @@ fn begun(default: Default, pieces: bool) -> Reader
             count: 0,
             bytes: [0u8; 15],
         },
-        plan: empty_plan(default_cores(default)),
+        plan: empty_plan(default.cores()),
     }
 }
 
@@ -377,127 +353,93 @@ pub fn start_plan(default: Default) -> Reader
     begun(default, true)
 }
 
+// What the fields are answered with where the file ends, after so many tasks: 1 or 6.
+fn fields_ended(f: Field, tasks: usize) -> Result<(), Refusal>
+    ensures { result ≡ ended_after f tasks }
+{
+    let last = ended(f, tasks);
+    if last.bad == 0 {
+        Ok(())
+    } else {
+        Err(refusal(last.bad, last.place))
+    }
+}
+
 // What the end of a table file is answered with: 1, 6 or, for a reader with pieces, 2; then the check of the record.
-fn table_ended(f: Field, plan: Plan) -> Answer
-    ensures { result ≡ table_ended f plan }
+#[tactic(auto, unfolding(crate::specs::Reading::table_ended))]
+fn table_ended(f: Field, plan: Plan) -> Result<(), Refusal>
+    ensures answer { result ≡ table_ended f plan }
+    ensures room { IfOk result (λ done. plan.count ≤ 64) }
 {
-    let last = ended(f, plan.count);
-    if last.bad != 0 {
-        return Answer::Refused(refusal(last.bad, last.place));
-    }
+    fields_ended(f, plan.count)?;
     if f.pieces | (0 < plan.placed) {
-        return Answer::Refused(Refusal::WrongTag(Place(f.end)));
+        return Err(Refusal::WrongTag(Place(f.end)));
     }
-    let held = plan.tasks;
-    tasks::check_tasks(plan.cores, plan.count, held)
-}
-
-// The first `count` of these tasks, and 0 past them.
-fn first_tasks(held: [Task; 64], count: usize) -> [Task; 64]
-    ensures { result ≡ padded 64 count no_task (λ i. get_or held i no_task) }
-{
-    let n = tasks::smaller(count, 64);
-    let mut first = no_tasks();
-    let mut i = 0;
-    while i < n {
-        first[i] = held[i];
-        i += 1;
-    }
-    first
-}
-
-// The first `placed` of these pieces, and 0 past them.
-fn first_pieces(held: [Piece; 128], placed: usize) -> [Piece; 128]
-    ensures { result ≡ padded 128 placed no_piece (λ j. get_or held j no_piece) }
-{
-    let n = tasks::smaller(placed, 128);
-    let mut first = [no_piece(); 128];
-    let mut j = 0;
-    while j < n {
-        first[j] = held[j];
-        j += 1;
-    }
-    first
-}
-
-// Ends the reading of a table file. Any reader may be given; the table handed out is 0 past its count.
-pub fn close_table(reader: Reader) -> ReadTable
-    ensures { result ≡ table_closed reader }
-{
-    let plan = reader.plan;
-    let answer = table_ended(reader.field, plan);
-    if let Answer::Refused(_) = answer {
-        return ReadTable {
-            answer,
-            table: Table {
-                cores: 0,
-                count: 0,
-                tasks: no_tasks(),
-            },
-        };
-    }
-    let held = plan.tasks;
-    ReadTable {
-        answer,
-        table: Table {
-            cores: plan.cores,
-            count: plan.count,
-            tasks: first_tasks(held, plan.count),
-        },
-    }
+    tasks::check_tasks(plan.cores, plan.count, plan.tasks)
 }
 
 // What the end of a plan file is answered with: 1, 6 or, last, 8.
-fn plan_ended(f: Field, plan: Plan) -> Answer
-    ensures { result ≡ plan_ended f plan }
+#[tactic(auto, unfolding(crate::specs::Reading::plan_ended))]
+fn plan_ended(f: Field, plan: Plan) -> Result<(), Refusal>
+    ensures answer { result ≡ plan_ended f plan }
+    ensures room { IfOk result (λ done. (plan.count ≤ 64) × (plan.placed ≤ 128)) }
 {
-    let last = ended(f, plan.count);
-    if last.bad != 0 {
-        return Answer::Refused(refusal(last.bad, last.place));
-    }
+    fields_ended(f, plan.count)?;
     if f.misshapen {
-        return Answer::Refused(Refusal::NoPlanShape);
+        return Err(Refusal::NoPlanShape);
     }
     plans::check_plan(plan)
 }
 
+// Ends the reading of a table file. Any reader may be given; the table handed out is 0 past its count.
+#[tactic(auto, unfolding(crate::specs::Reading::table_closed))]
+pub fn close_table(reader: Reader) -> Result<Table, Refusal>
+    ensures { result ≡ table_closed reader }
+{
+    let plan = reader.plan;
+    table_ended(reader.field, plan)?;
+    let mut tasks = plan.tasks;
+    tasks[plan.count..].fill(NO_TASK);
+    Ok(Table {
+        cores: plan.cores,
+        count: plan.count,
+        tasks,
+    })
+}
+
 // Ends the reading of a plan file. Any reader may be given; the plan handed out is 0 past its counts.
-pub fn close_plan(reader: Reader) -> ReadPlan
+#[tactic(auto, unfolding(crate::specs::Reading::plan_closed))]
+pub fn close_plan(reader: Reader) -> Result<Plan, Refusal>
     ensures { result ≡ plan_closed reader }
 {
     let plan = reader.plan;
-    let answer = plan_ended(reader.field, plan);
-    if let Answer::Refused(_) = answer {
-        return ReadPlan {
-            answer,
-            plan: empty_plan(0),
-        };
-    }
-    let tasks_held = plan.tasks;
-    let pieces_held = plan.pieces;
-    ReadPlan {
-        answer,
-        plan: Plan {
-            cores: plan.cores,
-            count: plan.count,
-            tasks: first_tasks(tasks_held, plan.count),
-            placed: plan.placed,
-            pieces: first_pieces(pieces_held, plan.placed),
-        },
-    }
+    plan_ended(reader.field, plan)?;
+    let mut tasks = plan.tasks;
+    let mut pieces = plan.pieces;
+    tasks[plan.count..].fill(NO_TASK);
+    pieces[plan.placed..].fill(NO_PIECE);
+    Ok(Plan {
+        cores: plan.cores,
+        count: plan.count,
+        tasks,
+        placed: plan.placed,
+        pieces,
+    })
 }
 
 // ---- A whole file.
 
 // Reads a table file, with this default: any bytes at all.
-pub fn read_table(default: Default, bytes: &[u8]) -> ReadTable
+#[tactic(auto, unfolding(crate::specs::Files::table_read))]
+pub fn read_table(default: Default, bytes: &[u8]) -> Result<Table, Refusal>
     ensures { result ≡ table_read default bytes.now }
 {
     close_table(feed(start_table(default), bytes))
 }
 
 // Reads a plan file, with this default: any bytes at all.
-pub fn read_plan(default: Default, bytes: &[u8]) -> ReadPlan
+#[tactic(auto, unfolding(crate::specs::Files::plan_read))]
+pub fn read_plan(default: Default, bytes: &[u8]) -> Result<Plan, Refusal>
     ensures { result ≡ plan_read default bytes.now }
 {
     close_plan(feed(start_plan(default), bytes))

@@ -4,10 +4,12 @@ use denote.Ref.{Bor}
 use mathlib.Core.List.{List}
 use mathlib.Core.Path.{◌≡◌, sym, ◌∙◌}
 use Prim.Native.Nat.{ℕ}
+use Rattle.std.specs.Prelude.{Result, Ok, Err}
+use Rattle.tasks.specs.declared.Refusal.{Refusal}
 use Rattle.tasks.proofs.Settling.{Settles, settled}
 use Rattle.force.specs.InForce.{IsPart, IsInForce}
 use Rattle.force.specs.declared.InForce.{InForce}
-use Rattle.force.specs.declared.InForce.TheVariants.{Own, Shipped, Neither}
+use Rattle.force.specs.declared.InForce.TheVariants.{Own, Shipped}
 use Rattle.force.proofs.which_in_force.Reads as which-in-force
 use Rattle.force.proofs.cores_in_force.Reads as cores-in-force
 
@@ -21,7 +23,7 @@ cores_in_force_settled κ x e r s p q = settled p q
 pub part_fixed : (r q s : Bor (List ℕ)) (a e : ℕ) → IsPart r s a e → IsPart q s a e → (r.ref_ptr.0 ≡ q.ref_ptr.0) × ((r.ref_ptr.1 ≡ q.ref_ptr.1) × (r.now ≡ q.now))
 part_fixed r q s a e h k = (h.block ∙ sym k.block, (h.offset ∙ sym k.offset, h.bytes ∙ sym k.bytes))
 
-pub table_in_force_settled : (i : InForce) (r q own shipped : Bor (List ℕ)) → IsInForce i r own shipped → IsInForce i q own shipped → (r.ref_ptr.0 ≡ q.ref_ptr.0) × ((r.ref_ptr.1 ≡ q.ref_ptr.1) × (r.now ≡ q.now))
-table_in_force_settled Own r q own shipped h k = part_fixed r q own _ _ h k
-table_in_force_settled Shipped r q own shipped h k = part_fixed r q shipped _ _ h k
-table_in_force_settled (Neither x) r q own shipped h k = part_fixed r q shipped _ _ h k
+pub table_in_force_settled : (i : Result InForce Refusal) (r q own shipped : Bor (List ℕ)) → IsInForce i r own shipped → IsInForce i q own shipped → (r.ref_ptr.0 ≡ q.ref_ptr.0) × ((r.ref_ptr.1 ≡ q.ref_ptr.1) × (r.now ≡ q.now))
+table_in_force_settled (Ok Own) r q own shipped h k = part_fixed r q own _ _ h k
+table_in_force_settled (Ok Shipped) r q own shipped h k = part_fixed r q shipped _ _ h k
+table_in_force_settled (Err x) r q own shipped h k = part_fixed r q shipped _ _ h k

@@ -1,34 +1,35 @@
 -- Table in force: the machine's own table if it is a good table file, otherwise the shipped one if that is good.
-use Rattle.std.specs.Prelude.{cond, ◌&&◌, List, ◌≡◌, ℕ, ◌+◌, ◌-◌, leb, eqb, length, take, drop, get_or}
+use Rattle.std.specs.Prelude.{cond, ◌&&◌, List, ◌≡◌, ℕ, ◌+◌, ◌-◌, leb, eqb, length, take, drop, get_or, Result, Ok, Err}
 use Rattle.std.specs.Borrow.{Bor}
-use Rattle.tasks.specs.declared.Answer.{Answer}
-use Rattle.tasks.specs.declared.Answer.TheVariants.{Accepted, Refused}
+use Rattle.tasks.specs.Answers.{Answer}
+use Rattle.tasks.specs.Answers.{Accepted, Refused}
+use Rattle.tasks.specs.declared.Refusal.{Refusal}
+use Rattle.tasks.specs.declared.Table.{Table}
 use Rattle.files.specs.Files.{table_read}
+use Rattle.files.specs.Grammar.{answer_of}
 use Rattle.files.specs.declared.Default.{Default}
-use Rattle.force.specs.declared.CoresInForce.{CoresInForce}
-use Rattle.force.specs.declared.CoresInForce.TheVariants.{Cores, NoTable}
 use Rattle.force.specs.declared.InForce.{InForce}
-use Rattle.force.specs.declared.InForce.TheVariants.{Own, Shipped, Neither}
+use Rattle.force.specs.declared.InForce.TheVariants.{Own, Shipped}
 
 -- which slice is in force, by the answers for the two
-abbrev pub choice : Answer → Answer → InForce
-choice Accepted shipped = Own
-choice (Refused x) Accepted = Shipped
-choice (Refused x) (Refused y) = Neither y
+abbrev pub choice : Answer → Answer → Result InForce Refusal
+choice Accepted shipped = Ok Own
+choice (Refused x) Accepted = Ok Shipped
+choice (Refused x) (Refused y) = Err y
 
 -- which slice is in force or, if both are bad, the refusal of the shipped one
-unfoldable pub in_force : Default → List ℕ → List ℕ → InForce
-in_force d own shipped = choice (table_read d own).answer (table_read d shipped).answer
+unfoldable pub in_force : Default → List ℕ → List ℕ → Result InForce Refusal
+in_force d own shipped = choice (answer_of (table_read d own)) (answer_of (table_read d shipped))
 
--- the core count of the slice in force, by that of the two
-abbrev pub count_in : InForce → ℕ → ℕ → CoresInForce
-count_in Own m n = Cores m
-count_in Shipped m n = Cores n
-count_in (Neither x) m n = NoTable x
+-- the core count of the table that is in force, by what the two slices give
+abbrev pub count_in : Result Table Refusal → Result Table Refusal → Result ℕ Refusal
+count_in (Ok t) shipped = Ok t.cores
+count_in (Err x) (Ok t) = Ok t.cores
+count_in (Err x) (Err y) = Err y
 
 -- the core count of the table in force: the one that it names, otherwise the stated default; if both are bad, the refusal of the shipped one
-unfoldable pub cores_in_force : Default → List ℕ → List ℕ → CoresInForce
-cores_in_force d own shipped = count_in (in_force d own shipped) (table_read d own).table.cores (table_read d shipped).table.cores
+unfoldable pub cores_in_force : Default → List ℕ → List ℕ → Result ℕ Refusal
+cores_in_force d own shipped = count_in (table_read d own) (table_read d shipped)
 
 -- r is the part of s from a to e, itself and no copy: it points at s's byte a
 pub record IsPart (r s : Bor (List ℕ)) (a e : ℕ) : Type 0 where
@@ -45,7 +46,7 @@ abbrev pub TaskFields : Bor (List ℕ) → Bor (List ℕ) → Type 0
 TaskFields r s = IsPart r s (first_task s.now) (length s.now)
 
 -- r is the table in force: the task fields of one slice or, if both are bad, an empty part
-abbrev pub IsInForce : InForce → Bor (List ℕ) → Bor (List ℕ) → Bor (List ℕ) → Type 0
-IsInForce Own r own shipped = TaskFields r own
-IsInForce Shipped r own shipped = TaskFields r shipped
-IsInForce (Neither x) r own shipped = IsPart r shipped 0 0
+abbrev pub IsInForce : Result InForce Refusal → Bor (List ℕ) → Bor (List ℕ) → Bor (List ℕ) → Type 0
+IsInForce (Ok Own) r own shipped = TaskFields r own
+IsInForce (Ok Shipped) r own shipped = TaskFields r shipped
+IsInForce (Err x) r own shipped = IsPart r shipped 0 0

@@ -5,62 +5,56 @@ ghost use Rattle.std.specs.Prelude.{◌≡◌};
 ghost use Rattle.force.specs.InForce.{in_force, cores_in_force, TaskFields, IsInForce};
 
 use files::{Default, read_table};
-use tasks::{Answer, Refusal};
+use tasks::Refusal;
 
-// Which of the two slices is in force or, if both are bad, the refusal of the shipped one.
-#[derive(Clone, Copy)]
+// Which of the two slices is in force.
+#[derive(Clone, Copy, Debug, PartialEq, Eq)]
 pub enum InForce {
     Own,
     Shipped,
-    Neither(Refusal),
-}
-
-// The core count of the table in force or, if both slices are bad, the refusal of the shipped one.
-#[derive(Clone, Copy)]
-pub enum CoresInForce {
-    Cores(usize),
-    NoTable(Refusal),
 }
 
 // Which of the two slices is in force or, if both are bad, the refusal of the shipped one.
-pub fn which_in_force<'a>(default: Default, own: &'a [u8], shipped: &'a [u8]) -> InForce
+#[tactic(auto, unfolding(crate::specs::InForce::in_force))]
+pub fn which_in_force<'a>(
+    default: Default,
+    own: &'a [u8],
+    shipped: &'a [u8],
+) -> Result<InForce, Refusal>
     ensures { result ≡ in_force default own.now shipped.now }
 {
-    let own_read = read_table(default, own);
-    let own_answer = own_read.answer;
-    if let Answer::Accepted = own_answer {
-        return InForce::Own;
+    if read_table(default, own).is_ok() {
+        return Ok(InForce::Own);
     }
-    let shipped_read = read_table(default, shipped);
-    let shipped_answer = shipped_read.answer;
-    match shipped_answer {
-        Answer::Accepted => InForce::Shipped,
-        Answer::Refused(refusal) => InForce::Neither(refusal),
-    }
+    read_table(default, shipped)?;
+    Ok(InForce::Shipped)
 }
 
-// How many cores the table in force is for: the count that it names, otherwise the default. The part that `table_in_force` gives does not hold it.
-pub fn cores_in_force<'a>(default: Default, own: &'a [u8], shipped: &'a [u8]) -> CoresInForce
+// How many cores the table in force is for: the count that it names, otherwise the default; if both slices are bad, the refusal of the shipped one.
+// The part that `table_in_force` gives does not hold it.
+#[tactic(auto, unfolding(crate::specs::InForce::cores_in_force))]
+pub fn cores_in_force<'a>(
+    default: Default,
+    own: &'a [u8],
+    shipped: &'a [u8],
+) -> Result<usize, Refusal>
     ensures { result ≡ cores_in_force default own.now shipped.now }
 {
-    match which_in_force(default, own, shipped) {
-        InForce::Own => CoresInForce::Cores(read_table(default, own).table.cores),
-        InForce::Shipped => CoresInForce::Cores(read_table(default, shipped).table.cores),
-        InForce::Neither(refusal) => CoresInForce::NoTable(refusal),
+    if let Ok(table) = read_table(default, own) {
+        return Ok(table.cores);
     }
+    let table = read_table(default, shipped)?;
+    Ok(table.cores)
 }
 
 // The part of a good table file that holds its task fields, itself and no copy.
 fn task_fields<'a>(file: &'a [u8]) -> &'a [u8]
     ensures { TaskFields result file.entry }
 {
-    if file.len() < 4 {
-        return &file[0..];
+    match file {
+        [1, _, _, _, tasks @ ..] => tasks,
+        _ => file,
     }
-    if file[0] == 1 {
-        return &file[4..];
-    }
-    &file[0..]
 }
 
 // The part of the slice in force that holds the task fields, both slices lent for as long as the part.
@@ -68,9 +62,9 @@ fn part_in_force<'r>(default: Default, own: &'r [u8], shipped: &'r [u8]) -> &'r 
     ensures { IsInForce (in_force default own.now shipped.now) result own.entry shipped.entry }
 {
     match which_in_force(default, own, shipped) {
-        InForce::Own => task_fields(own),
-        InForce::Shipped => task_fields(shipped),
-        InForce::Neither(_) => &shipped[0..0],
+        Ok(InForce::Own) => task_fields(own),
+        Ok(InForce::Shipped) => task_fields(shipped),
+        Err(_) => &shipped[..0],
     }
 }
 

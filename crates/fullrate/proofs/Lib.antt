@@ -1,4 +1,5 @@
 pub mod AllowedTurns
+pub mod Cores
 pub mod SameSets
 pub mod SameRuns
 pub mod Settled

@@ -4,18 +4,18 @@ use Rattle.tasks.specs.Below.{any, padded}
 use Rattle.plans.specs.declared.Plan.{Plan}
 use Rattle.jobs.specs.Jobs.{names, no_run}
 use Rattle.dispatch.specs.States.{job_of, fresh_state}
-use Rattle.jobs.specs.declared.CoreRun.{CoreRun}
+use Rattle.jobs.specs.Jobs.{Runner}
 use Rattle.dispatch.specs.declared.State.{State}
 use Rattle.dispatch.specs.declared.Ticked.{Ticked}
 use Rattle.fullrate.specs.FullRate.{full_tick}
 use Rattle.fullrate.specs.declared.Watched.{Watched}
 
 -- did task i run on one of the m cores?
-abbrev pub ran_in : ℕ → List CoreRun → ℕ → Bool
-ran_in m runs i = any (min m 16) (λ x. names i (get_or runs x no_run).runner)
+abbrev pub ran_in : ℕ → List Runner → ℕ → Bool
+ran_in m runs i = any (min m 16) (λ x. names i (get_or runs x no_run))
 
 -- the ticks since its release, this one included, if task i ran in it: in its job's last tick that is the job's response
-abbrev pub seen : ℕ → List CoreRun → State → ℕ → ℕ
+abbrev pub seen : ℕ → List Runner → State → ℕ → ℕ
 seen m runs s i = cond (ran_in m runs i) (job_of s i).age 0
 
 -- a tick at full rate, and what is seen in it

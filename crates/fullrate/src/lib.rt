@@ -1,66 +1,47 @@
 // Ticks at full rate: the tasks that may be released, runs that release them as soon as allowed, and what is seen in them.
 #![tactic(auto)]
 
-ghost use Rattle.std.specs.Prelude.{◌≡◌, true, false, cond, ◌<◌, max, eqb};
-ghost use Rattle.jobs.specs.Jobs.{by_phase, names};
-ghost use Rattle.fullrate.specs.Allowed.{no_tasks, with_task, allowed_set};
+ghost use Rattle.std.specs.Prelude.{◌≡◌, true, false, eqb};
+ghost use Rattle.jobs.specs.Jobs.{by_phase};
+ghost use Rattle.fullrate.specs.Allowed.{allowed_set};
 ghost use Rattle.fullrate.specs.Watched.{ran_in, watched};
-ghost use Rattle.fullrate.specs.Watching.{saw, watched_at, watched_from};
+ghost use Rattle.fullrate.specs.Watching.{saw, watched_from};
 
 use board::Ran;
 use dispatch::State;
-use jobs::{CoreRun, Job, Phase, Runner, Tasks};
+use jobs::{Job, Phase, Tasks};
 use plans::Plan;
 use tasks::{Task, TaskNo};
 
 // ---- The tasks that may be released.
 
-fn no_tasks() -> Tasks
-    ensures { result ≡ no_tasks }
-{
-    Tasks {
-        members: [TaskNo(0); 64],
-        count: 0,
-    }
-}
+// No task at all.
+const NO_TASKS: Tasks = Tasks {
+    members: [TaskNo(0); 64],
+    count: 0,
+};
 
 // Rule 3: ended or never released, and in the first case of age p.
 fn may_be_released(task: Task, job: Job) -> bool
     ensures { result ≡ by_phase job.phase true false (eqb job.age task.period) }
 {
-    let phase = job.phase;
-    match phase {
+    match job.phase {
         Phase::Never => true,
         Phase::Active => false,
         Phase::Ended => job.age == task.period,
     }
 }
 
-// A set, with task i if it joins.
-fn joined(set: Tasks, i: usize, joins: bool) -> Tasks
-    requires { (set.count < 64) × (i < 256) }
-    ensures { result ≡ cond joins (with_task set i) set }
-{
-    if joins {
-        let n = set.count;
-        let mut more = set;
-        more.members[n] = TaskNo(i as u8);
-        more.count = n + 1;
-        return more;
-    }
-    set
-}
-
 // Every task that may be released in the next tick.
 pub fn all_allowed(plan: Plan, state: State) -> Tasks
     ensures { result ≡ allowed_set plan state }
 {
-    let count = tasks::smaller(plan.count, 64);
-    let mut set = no_tasks();
-    let mut i = 0;
-    while i < count {
-        set = joined(set, i, may_be_released(plan.tasks[i], state.jobs[i]));
-        i += 1;
+    let mut set = NO_TASKS;
+    for i in 0..plan.count.min(64) {
+        if may_be_released(plan.tasks[i], state.jobs[i]) {
+            set.members[set.count] = TaskNo(i as u8);
+            set.count += 1;
+        }
     }
     set
 }
@@ -74,109 +55,42 @@ pub struct Watched {
     pub longest: [u32; 64],
 }
 
-// The longest response seen of each task so far.
-#[derive(Clone, Copy)]
-struct Seen {
-    longest: [u32; 64],
+// Did this task run on one of the first cores?
+fn ran_in(cores: usize, runs: [Option<TaskNo>; 16], task: TaskNo) -> bool
+    ensures { result ≡ ran_in cores runs task.0 }
+{
+    runs[..cores.min(16)].contains(&Some(task))
 }
 
-// Is it this task that runs?
-fn runs_here(i: usize, run: CoreRun) -> bool
-    ensures { result ≡ names i run.runner }
+// The longest response of each task so far, with what is seen in a tick: a job's age if it ran.
+fn see(longest: [u32; 64], plan: Plan, ran: Ran, state: State) -> [u32; 64]
+    ensures { result ≡ saw longest plan ran state }
 {
-    let runner = run.runner;
-    match runner {
-        Runner::Idle => false,
-        Runner::Runs(task) => task.index() == i,
+    let mut more = [0; 64];
+    for i in 0..plan.count.min(64) {
+        let runs = ran_in(plan.cores, ran.runs, TaskNo(i as u8));
+        let response = if runs { state.jobs[i].age } else { 0 };
+        more[i] = longest[i].max(response);
     }
-}
-
-// Did task i run on one of the first cores?
-fn ran_in(cores: usize, runs: [CoreRun; 16], i: usize) -> bool
-    ensures { result ≡ ran_in cores runs i }
-{
-    let most = tasks::smaller(cores, 16);
-    let mut ran = false;
-    let mut x = 0;
-    while x < most {
-        ran = ran | runs_here(i, runs[x]);
-        x += 1;
-    }
-    ran
-}
-
-// The longest response of a task so far: its job's age if it ran and that is longer.
-fn longer(longest: u32, ran: bool, job: Job) -> u32
-    ensures { result ≡ max longest (cond ran job.age 0) }
-{
-    if ran & (longest < job.age) {
-        job.age
-    } else {
-        longest
-    }
-}
-
-// No task is finished.
-fn none_finished(_seen: Seen, _plan: Plan, _state: State) -> Tasks
-    ensures { result ≡ no_tasks }
-{
-    Tasks {
-        members: [TaskNo(0); 64],
-        count: 0,
-    }
-}
-
-// Every task is released that may be.
-fn all_released(_seen: Seen, plan: Plan, state: State) -> Tasks
-    ensures { result ≡ allowed_set plan state }
-{
-    all_allowed(plan, state)
-}
-
-// What is seen in a tick.
-fn see(seen: Seen, plan: Plan, ran: Ran, state: State) -> Seen
-    ensures { result ≡ saw seen plan ran state }
-{
-    let runs = ran.runs;
-    let count = tasks::smaller(plan.count, 64);
-    let mut longest = [0u32; 64];
-    let mut i = 0;
-    while i < count {
-        longest[i] = longer(seen.longest[i], ran_in(plan.cores, runs, i), state.jobs[i]);
-        i += 1;
-    }
-    Seen { longest }
-}
-
-// What was seen, and the last state.
-fn watched_at(seen: Seen, state: State) -> Watched
-    ensures { result ≡ watched_at seen state }
-{
-    let longest = seen.longest;
-    Watched { state, longest }
+    more
 }
 
 // So many ticks at full rate from a state, which is the record that is kept here and stepped where it stands.
-fn watch_from(mut seen: Seen, plan: Plan, mut state: State, ticks: usize) -> Watched
-    ensures { result ≡ watched_from seen plan state ticks }
+fn watch_from(mut longest: [u32; 64], plan: Plan, mut state: State, ticks: usize) -> Watched
+    ensures { result ≡ watched_from longest plan state ticks }
 {
-    let mut n: usize = 0;
-    while n < ticks {
-        let finished = none_finished(seen, plan, state);
-        let released = all_released(seen, plan, state);
-        let ran = board::step(&mut state, plan, finished, released);
-        seen = see(seen, plan, ran, state);
-        n += 1;
+    for _n in 0..ticks {
+        let released = all_allowed(plan, state);
+        let ran = board::step(&mut state, plan, NO_TASKS, released);
+        let seen = see(longest, plan, ran, state);
+        longest = seen;
     }
-    watched_at(seen, state)
+    Watched { state, longest }
 }
 
 // So many ticks from a fresh state at full rate.
 pub fn watch(plan: Plan, ticks: usize) -> Watched
     ensures { result ≡ watched plan ticks }
 {
-    let seen = Seen {
-        longest: [0u32; 64],
-    };
-    watch_from(seen, plan, dispatch::fresh(), ticks)
+    watch_from([0; 64], plan, dispatch::fresh(), ticks)
 }

@@ -1,4 +1,4 @@
 pub mod Walks
-pub mod Numbers
+pub mod Runners
 pub mod Settled
 pub mod Making

@@ -1,6 +1,6 @@
 -- The check of a well made state, job by job and core by core, and what lies past the records.
 use mathlib.Core.Path.{◌≡◌, refl, sym, ap, ◌∙◌}
-use mathlib.Core.Bool.{Bool, true, false, not, ◌&&◌, ◌||◌}
+use mathlib.Core.Bool.{Bool, true, false, not, ◌&&◌}
 use mathlib.Core.List.{List}
 use mathlib.Core.Logic.{◌⊎◌, inl, inr}
 use Prim.Native.Nat.{ℕ, ◌+◌, ◌≤◌, ◌<◌, min}
@@ -9,21 +9,20 @@ use native.Mathlib.Numerals.{add-one}
 use native.Mathlib.Omega.{arith}
 use lib.Dec.{leb, ltb, eqb}
 use lib.ListN.{length, get_or, get_or-eq_default}
-use borrow.Author.Tests.{lt-ltb, le-ltb, eqb-false}
+use borrow.Author.Tests.{lt-ltb, le-ltb}
 use Rattle.tasks.specs.Below.{all, any}
 use Rattle.tasks.specs.declared.Task.{Task}
-use Rattle.tasks.proofs.Below.{all_each, all_make, any_same}
+use Rattle.tasks.specs.declared.TaskNo.{TaskNo}
+use Rattle.tasks.proofs.Below.{all_each, all_make}
 use Rattle.tasks.proofs.Bools.{clash, either, not_second, and_true}
 use Rattle.plans.specs.Pieces.{no_piece, task_of, piece_of}
 use Rattle.plans.specs.declared.Piece.{Piece}
 use Rattle.plans.specs.declared.Plan.{Plan}
-use Rattle.jobs.specs.Jobs.{no_job, no_run, once_released, phase_no, is_idle, names, runner_no}
-use Rattle.jobs.specs.declared.CoreRun.{CoreRun}
+use Rattle.jobs.specs.Jobs.{no_job, no_run, once_released, names}
+use Rattle.jobs.specs.Jobs.{Runner}
 use Rattle.jobs.specs.declared.Job.{Job}
 use Rattle.jobs.specs.declared.Phase.TheVariants.{Never, Active, Ended}
-use Rattle.jobs.specs.declared.Runner.{Runner}
-use Rattle.jobs.specs.declared.Runner.TheVariants.{Idle, Runs}
-use Rattle.jobs.proofs.Numbers.{once_no, named_no}
+use Rattle.jobs.specs.Jobs.{Idle, Runs}
 use Rattle.jobs.specs.WellMade.{piece_exists, at_no_piece, job_well_made, jobs_well_made, core_well_made, cores_well_made}
 
 -- a count above a size reads as that size, where all past it pass
@@ -68,7 +67,7 @@ module _ (p : Plan) (jobs : List Job) where
       go (yes l) = let q : min t 63 ≡ t = omega arith in rw (q, ltb_read t p.count 64 l)
       go (no l) = rw (job_past e t (omega arith), le-ltb t (min p.count 64) (omega arith)) (not_second (ltb t p.count) refl)
 
-  module _ (last : List CoreRun) where
+  module _ (last : List Runner) where
     pub cores_read : length last ≡ 16 → all (min p.cores 16) (core_well_made p jobs last) ≡ cores_well_made p jobs last
     unfolding core_well_made
     cores_read e = all_read 16 p.cores (core_well_made p jobs last) past
@@ -76,14 +75,15 @@ module _ (p : Plan) (jobs : List Job) where
         past : (x : ℕ) → 16 ≤ x → core_well_made p jobs last x ≡ true
         past x l = let h : get_or last x no_run ≡ no_run = get_or-eq_default last no_run (omega arith) in rw h
 
-    -- a core is as a well made state has it, told of the number of what ran there and of what is read of its task
-    core_is : (x : ℕ) (r : Runner) (released seen : Bool) → runner_no r ≤ 256 → eqb (runner_no r) 256 ≡ is_idle r → (get_or last x no_run).runner ≡ r → ltb (runner_no r) p.count && once_released (get_or jobs (runner_no r) no_job).phase ≡ released → any x (λ y. eqb (runner_no (get_or last y no_run).runner) (runner_no r)) ≡ seen → eqb (runner_no r) 256 || (released && not seen) ≡ core_well_made p jobs last x
+    -- a core is as a well made state has it where nothing ran
+    pub core_idle : (x : ℕ) → get_or last x no_run ≡ Idle → core_well_made p jobs last x ≡ true
     unfolding core_well_made
-    core_is x Idle released seen b i e h n = rw e
-    core_is x (Runs t) released seen b i e h n = let d : t.0 < 256 = omega (arith, eqb-false t.0 256 i) in let o : any x (λ y. names t.0 (get_or last y no_run).runner) ≡ seen = any_same x _ _ (λ y l. sym (named_no (get_or last y no_run).runner t.0 d)) ∙ n in rw (i, e, ← h, ← o)
+    core_idle x e = rw e
 
-    pub core_says : (x count t k n : ℕ) (seen : Bool) → length jobs ≡ 64 → t ≡ runner_no (get_or last x no_run).runner → t ≤ 256 → eqb t 256 ≡ is_idle (get_or last x no_run).runner → count ≡ min p.count 64 → k ≡ min t 63 → n ≡ phase_no (get_or jobs k no_job).phase → any x (λ y. eqb (runner_no (get_or last y no_run).runner) t) ≡ seen → eqb t 256 || (ltb t count && ltb 0 n && not seen) ≡ core_well_made p jobs last x
-    core_says x count t k n seen e q b i c h w s = rw (c, w, h, once_no) (ap (λ (z : ℕ). eqb z 256 || (ltb t (min p.count 64) && once_released (get_or jobs (min t 63) no_job).phase && not seen)) q ∙ core_is x (get_or last x no_run).runner (ltb t (min p.count 64) && once_released (get_or jobs (min t 63) no_job).phase) seen (rw q at b) (rw q at i) refl (rw (← q) (released_read t e)) (rw (← q) s))
+    -- and where a task did, told of what is read of its job
+    pub core_says : (x count k : ℕ) (t : TaskNo) (once seen : Bool) → length jobs ≡ 64 → get_or last x no_run ≡ Runs t → count ≡ min p.count 64 → k ≡ min t.0 63 → once ≡ once_released (get_or jobs k no_job).phase → any x (λ y. names t.0 (get_or last y no_run)) ≡ seen → ltb t.0 count && once && not seen ≡ core_well_made p jobs last x
+    unfolding core_well_made
+    core_says x count k t once seen e r c h w s = rw (r, c, w, h, s) (ap (λ (z : Bool). z && not seen) (sym (released_read t.0 e)))
 
 -- the piece that a job is at exists, told of the piece read within the record
 pub exists_read : (p : Plan) (i : ℕ) (j : Job) (here : Piece) (placed : ℕ) → length p.pieces ≡ 128 → p.placed ≡ placed → piece_of p (min j.piece 127) ≡ here → ltb j.piece placed && ltb j.piece 128 && eqb here.task.0 i && ltb j.ran here.cost ≡ piece_exists p i j

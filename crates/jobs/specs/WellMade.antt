@@ -4,7 +4,7 @@ use Rattle.tasks.specs.Below.{all, any}
 use Rattle.plans.specs.Pieces.{task_of, piece_of}
 use Rattle.plans.specs.declared.Plan.{Plan}
 use Rattle.jobs.specs.Jobs.{no_job, no_run, by_phase, by_runner, once_released, names}
-use Rattle.jobs.specs.declared.CoreRun.{CoreRun}
+use Rattle.jobs.specs.Jobs.{Runner}
 use Rattle.jobs.specs.declared.Job.{Job}
 
 -- once released, ages are at least 1 and at most p
@@ -32,10 +32,10 @@ abbrev pub jobs_well_made : Plan → List Job → Bool
 jobs_well_made p jobs = all p.count (λ i. job_well_made p i (get_or jobs i no_job))
 
 -- each core's last task is none or a task once released, and none stands on two cores
-unfoldable pub core_well_made : Plan → List Job → List CoreRun → ℕ → Bool
+unfoldable pub core_well_made : Plan → List Job → List Runner → ℕ → Bool
 core_well_made p jobs last x =
-    by_runner (get_or last x no_run).runner true
-    (λ t. ltb t p.count && once_released (get_or jobs t no_job).phase && not (any x (λ y. names t (get_or last y no_run).runner)))
+    by_runner (get_or last x no_run) true
+    (λ t. ltb t p.count && once_released (get_or jobs t no_job).phase && not (any x (λ y. names t (get_or last y no_run))))
 
-abbrev pub cores_well_made : Plan → List Job → List CoreRun → Bool
+abbrev pub cores_well_made : Plan → List Job → List Runner → Bool
 cores_well_made p jobs last = all p.cores (core_well_made p jobs last)

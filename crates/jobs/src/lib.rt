@@ -1,17 +1,17 @@
 // Jobs, what runs on a core, sets of tasks, and whether a state's jobs and cores are well made.
 #![tactic(auto)]
 
-ghost use Rattle.std.specs.Prelude.{◌≡◌, ◌&&◌, ◌≤◌, min, eqb, length};
+ghost use Rattle.std.specs.Prelude.{◌≡◌, ◌&&◌, min, length};
 ghost use Rattle.tasks.specs.Below.{tabulate};
 ghost use Rattle.plans.specs.Pieces.{task_of, piece_of};
-ghost use Rattle.jobs.specs.Jobs.{phase_no, is_idle, runner_no};
+ghost use Rattle.jobs.specs.Jobs.{is_active, once_released};
 ghost use Rattle.jobs.specs.Sets.{member};
 ghost use Rattle.jobs.specs.WellMade.{job_well_made, jobs_well_made, cores_well_made};
 
 use plans::{Piece, Plan};
 use tasks::{Task, TaskNo};
 
-#[derive(Clone, Copy)]
+#[derive(Clone, Copy, Debug, PartialEq, Eq)]
 pub enum Phase {
     Never,
     Active,
@@ -28,17 +28,14 @@ pub struct Job {
     pub ran: u32,
 }
 
-#[derive(Clone, Copy)]
-pub enum Runner {
-    Idle,
-    Runs(TaskNo),
-}
-
-// What runs, or ran, on one core.
-#[derive(Clone, Copy)]
-pub struct CoreRun {
-    pub runner: Runner,
-}
+// The job of a task that was never released.
+pub const NO_JOB: Job = Job {
+    phase: Phase::Never,
+    late: false,
+    piece: 0,
+    age: 0,
+    ran: 0,
+};
 
 // A set of tasks: order and repeats mean nothing, and a count above 64 reads as 64.
 #[derive(Clone, Copy)]
@@ -47,26 +44,19 @@ pub struct Tasks {
     pub count: usize,
 }
 
-// A job's phase as a number.
-pub fn phase_no(job: Job) -> u8
-    ensures { result ≡ phase_no job.phase }
-{
-    let phase = job.phase;
-    match phase {
-        Phase::Never => 0,
-        Phase::Active => 1,
-        Phase::Ended => 2,
+impl Job {
+    // Is the job active?
+    pub fn is_active(self) -> bool
+        ensures { result ≡ is_active self.phase }
+    {
+        self.phase == Phase::Active
     }
-}
 
-// The task that runs on a core, or 256 where nothing does.
-pub fn runner_no(core: CoreRun) -> usize
-    ensures { (result ≡ runner_no core.runner) × (result ≤ 256) × (eqb result 256 ≡ is_idle core.runner) }
-{
-    let runner = core.runner;
-    match runner {
-        Runner::Idle => 256,
-        Runner::Runs(task) => task.index(),
+    // Was the job's task ever released?
+    pub fn once_released(self) -> bool
+        ensures { result ≡ once_released self.phase }
+    {
+        self.phase != Phase::Never
     }
 }
 
@@ -74,14 +64,9 @@ pub fn runner_no(core: CoreRun) -> usize
 pub fn marks(tasks: Tasks) -> [bool; 256]
     ensures { result ≡ tabulate 256 (member tasks) }
 {
-    let count = tasks::smaller(tasks.count, 64);
     let mut marks = [false; 256];
-    let mut k = 0;
-    while k < count {
-        let task = tasks.members[k];
-        let t = task.index();
-        marks[t] = true;
-        k += 1;
+    for task in &tasks.members[..tasks.count.min(64)] {
+        marks[task.index()] = true;
     }
     marks
 }
@@ -89,7 +74,7 @@ pub fn marks(tasks: Tasks) -> [bool; 256]
 // ---- Well made.
 
 // Are a state's jobs, and what ran on its cores in the last tick, well made? Any plan and any of them may be given.
-pub fn well_made(plan: Plan, jobs: [Job; 64], last: [CoreRun; 16]) -> bool
+pub fn well_made(plan: Plan, jobs: [Job; 64], last: [Option<TaskNo>; 16]) -> bool
     ensures { result ≡ jobs_well_made plan jobs && cores_well_made plan jobs last }
 {
     jobs_well_made(plan, jobs) & cores_well_made(plan, jobs, last)
@@ -99,33 +84,30 @@ pub fn well_made(plan: Plan, jobs: [Job; 64], last: [CoreRun; 16]) -> bool
 fn jobs_well_made(plan: Plan, jobs: [Job; 64]) -> bool
     ensures { result ≡ jobs_well_made plan jobs }
 {
-    let count = tasks::smaller(plan.count, 64);
     let mut good = true;
-    let mut i = 0;
-    while i < count {
+    for i in 0..plan.count.min(64) {
         let job = jobs[i];
-        let here = plan.pieces[tasks::smaller(job.piece as usize, 127)];
+        let here = plan.pieces[(job.piece as usize).min(127)];
         good = good & job_well_made(TaskNo(i as u8), plan.tasks[i], job, here, plan.placed);
-        i += 1;
     }
     good
 }
 
 // Is each core's last task none or a task once released, and none on two cores?
-fn cores_well_made(plan: Plan, jobs: [Job; 64], last: [CoreRun; 16]) -> bool
+fn cores_well_made(plan: Plan, jobs: [Job; 64], last: [Option<TaskNo>; 16]) -> bool
     ensures { result ≡ cores_well_made plan jobs last }
 {
-    let count = tasks::smaller(plan.count, 64);
-    let cores = tasks::smaller(plan.cores, 16);
-    let mut seen = [false; 257];
+    let count = plan.count.min(64);
+    let mut seen = [false; 256];
     let mut good = true;
-    let mut x = 0;
-    while x < cores {
-        let task = runner_no(last[x]);
-        let phase = phase_no(jobs[tasks::smaller(task, 63)]);
-        good = good & ((task == 256) | ((task < count) & (0 < phase) & !seen[task]));
-        seen[task] = true;
-        x += 1;
+    for x in 0..plan.cores.min(16) {
+        let ran = last[x];
+        if let Some(task) = ran {
+            let t = task.index();
+            let released = jobs[t.min(63)].once_released();
+            good = good & ((t < count) & released & !seen[t]);
+            seen[t] = true;
+        }
     }
     good
 }
@@ -138,8 +120,7 @@ fn job_well_made(i: TaskNo, task: Task, job: Job, here: Piece, placed: usize) ->
     let fits = (1 <= job.age) & (job.age <= task.period);
     let exists = (place < placed) & (place < 128) & (here.task.0 == i.0) & (job.ran < here.cost);
     let nowhere = (job.piece == 0) & (job.ran == 0) & !job.late;
-    let phase = job.phase;
-    match phase {
+    match job.phase {
         Phase::Never => (job.age == 0) & nowhere,
         Phase::Active => fits & exists,
         Phase::Ended => fits & nowhere,

@@ -1,6 +1,6 @@
 pub mod Walk
 pub mod Settled
-pub mod Begun
+pub mod Asking
 pub mod SameBounds
-pub mod Placed
+pub mod Recording
 pub mod Summed

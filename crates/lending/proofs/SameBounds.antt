@@ -1,15 +1,14 @@
 -- Two plans that agree up to their counts get the same bounds; so the bound over a lent list is the one over a plan's own.
-use mathlib.Core.Path.{◌≡◌, refl, sym, ap, ◌∙◌}
+use mathlib.Core.Path.{◌≡◌, refl, sym, ◌∙◌}
 use mathlib.Core.List.{List}
 use mathlib.Core.Bool.{cond}
 use Prim.Native.Nat.{ℕ, ◌<◌}
 use native.Mathlib.Decide.{dec_lt}
 use native.Mathlib.Omega.{arith}
 use Rattle.tasks.specs.Tables.{SameTable}
-use Rattle.tasks.specs.declared.Answer.{Answer}
-use Rattle.tasks.specs.declared.Answer.TheVariants.{Accepted, Refused}
+use Rattle.tasks.specs.Answers.{Answer}
+use Rattle.tasks.specs.Answers.{Accepted, Refused}
 use Rattle.tasks.specs.declared.Table.{Table}
-use Rattle.tasks.specs.declared.Task.{Task}
 use Rattle.tasks.proofs.Below.{sum_same}
 use Rattle.bounds.specs.Asking.{bound_asked}
 use Rattle.bounds.specs.Bound.{local_deadline, load, bound}
@@ -23,11 +22,6 @@ use Rattle.plans.proofs.InShape.{accepted_plan, fits}
 use Rattle.bounds.proofs.Accepted.{asked_refused, asked_past, asked_known}
 use Rattle.plans.proofs.SamePlans.{costs_same, checked_same}
 use Rattle.lending.specs.Lent.{lent_plan, bound_lent}
-
--- the interference of the pieces ranked above b is the same where the first n pieces are
-pub load_same : (ts : ℕ → Task) (pc qc : ℕ → Piece) (n : ℕ) → ((j : ℕ) → j < n → pc j ≡ qc j) → (b : Piece) (L : ℕ) → load ts pc n b L ≡ load ts qc n b L
-unfolding load
-load_same ts pc qc n same b L = sum_same n _ _ (λ j l. ap (λ (z : Piece). cond (above ts z b) (interference z.cost (ts z.task.0).period L) 0) (same j l))
 
 module _ (a b : Plan) (e : SamePlan a b) (q : ℕ) where
   module _ (accepted : checked_plan a ≡ Accepted) (inside : q < a.placed) where

@@ -1,133 +1,64 @@
--- What has been added up over a lent list is the bound of the plan on which its pieces were placed.
-use mathlib.Core.Path.{◌≡◌, refl, sym, ◌∙◌, ap}
+-- The bound over a lent list, by the plan record that it makes.
+use mathlib.Core.Path.{◌≡◌, refl, sym, ◌∙◌}
 use mathlib.Core.List.{List}
 use mathlib.Core.Bool.{Bool, true, false}
-use Prim.Native.Nat.{ℕ, zero, suc, ◌+◌, ◌≤◌, ◌<◌}
-use native.Mathlib.Nat.{le_refl}
+use Prim.Native.Nat.{ℕ, ◌<◌}
 use native.Mathlib.Omega.{arith}
 use lib.Dec.{ltb}
-use lib.ListN.{length}
-use Rattle.tasks.specs.Below.{sum}
-use Rattle.tasks.specs.declared.Answer.{Answer}
-use Rattle.tasks.specs.declared.Answer.TheVariants.{Accepted, Refused}
+use lib.ListN.{length, get_or}
+use Rattle.std.specs.Prelude.{Ok, Err}
+use Rattle.tasks.specs.Answers.{Answer}
+use Rattle.tasks.specs.Answers.{Accepted, Refused}
+use Rattle.tasks.specs.declared.Refusal.{Refusal}
 use Rattle.tasks.specs.declared.Table.{Table}
-use Rattle.bounds.specs.Asking.{unless_refused, bound_asked}
-use Rattle.bounds.specs.Bound.{local_deadline, load, bound}
-use Rattle.plans.specs.Margins.{margin}
-use Rattle.bounds.specs.Leaves.{Moderate}
-use Rattle.plans.specs.Pieces.{task_of, piece_of, SamePlan}
+use Rattle.plans.specs.Pieces.{no_piece, task_of, piece_of, SamePlan}
 use Rattle.plans.specs.Shape.{checked_plan}
-use Rattle.bounds.specs.declared.Bounding.TheVariants as bounding
 use Rattle.plans.specs.declared.Piece.{Piece}
 use Rattle.plans.specs.declared.Plan.{Plan}
-use Rattle.bounds.proofs.Sums.{load_none, load_small, local_small}
-use Rattle.lending.specs.Adding.{lent_piece, up_to, asked_of, begun, begin_of, task_in, pressure_on, added, Bearable, bounding_of}
+use Rattle.bounds.specs.Asking.{known, unless_refused, bound_asked}
+use Rattle.bounds.specs.Bound.{local_deadline, load, bound}
+use Rattle.bounds.specs.Leaves.{Moderate, listed}
+use Rattle.bounds.proofs.Parts.{list_moderate, list_load}
+use Rattle.lending.specs.Recorded.{recorded, asked_of}
 use Rattle.lending.specs.Lent.{lent_plan, bound_lent}
-use Rattle.lending.specs.declared.Adding.{Adding}
-use Rattle.lending.proofs.Begun.{begun_by, asked_plan, asked_moderate, asked_place}
-use Rattle.lending.proofs.Placed.{whole, accepted_same, asked_lent}
-use Rattle.lending.proofs.SameBounds.{load_same}
-
-abbrev with_bound : Adding → ℕ → Adding
-with_bound s x = record { answer = s.answer; reach = s.reach; tasks = s.tasks; piece = s.piece; deadline = s.deadline; bound = x }
-
-module _ (s : Adding) (ys : List Piece) where
-  -- the interference of the first j pieces of the list
-  abbrev loaded : ℕ → ℕ
-  loaded j = load (task_in s) (lent_piece ys) j s.piece s.deadline
-
-  loaded_more : (j : ℕ) → loaded (suc j) ≡ loaded j + pressure_on s (lent_piece ys j)
-  unfolding load sum pressure_on
-  loaded_more j = refl
-
-  added_next : (x : ℕ) (z : Piece) → added (with_bound s x) z ≡ with_bound s (x + pressure_on s z)
-  unfolding added pressure_on
-  added_next x z = refl
-
-  pub added_up : (j : ℕ) → up_to added j s ys ≡ with_bound s (s.bound + loaded j)
-  added_up zero = ap (with_bound s) (omega (arith, load_none (task_in s) (lent_piece ys) s.piece s.deadline))
-  added_up (suc j) = ap (λ (u : Adding). added u (lent_piece ys j)) (added_up j) ∙ added_next (s.bound + loaded j) (lent_piece ys j) ∙ ap (with_bound s) (omega (arith, loaded_more j))
+use Rattle.lending.proofs.Asking.{asked_plan, asked_moderate}
+use Rattle.lending.proofs.Recording.{accepted_same, asked_lent}
 
 -- the bound asked from outside, by the answer on the piece
-asked_by : (p : Plan) (q : ℕ) → let e = bound (task_of p) (piece_of p) p.placed q in bound_asked p q ≡ unless_refused (asked_of p q) (bounding.Known e (margin (local_deadline (task_of p) (piece_of p) q) e))
+asked_by : (p : Plan) (q : ℕ) → bound_asked p q ≡ unless_refused (asked_of p q) (Ok (known (local_deadline (task_of p) (piece_of p) q) (bound (task_of p) (piece_of p) p.placed q)))
 unfolding asked_of bound_asked
 asked_by p q = go (checked_plan p) (ltb q p.placed) refl refl
   where
-    go : (a : Answer) (b : Bool) → checked_plan p ≡ a → ltb q p.placed ≡ b
-        → let e = bound (task_of p) (piece_of p) p.placed q in bound_asked p q ≡ unless_refused (asked_of p q) (bounding.Known e (margin (local_deadline (task_of p) (piece_of p) q) e))
+    go : (a : Answer) (b : Bool) → checked_plan p ≡ a → ltb q p.placed ≡ b → bound_asked p q ≡ unless_refused (asked_of p q) (Ok (known (local_deadline (task_of p) (piece_of p) q) (bound (task_of p) (piece_of p) p.placed q)))
     go (Refused r) b c d = rw c
     go Accepted true c d = rw (c, d)
     go Accepted false c d = rw (c, d)
 
-module _ (t : Table) (ys : List Piece) (q : ℕ) where
-  abbrev given : Plan
-  given = whole t ys
-
-  abbrev started : Adding
-  started = begin_of given q
-
-  -- the piece asked for is accepted
-  module _ (accepted : asked_of given q ≡ Accepted) where
-    abbrev from : Adding
-    from = begun Accepted given q
-
-    same : SamePlan given (lent_plan t ys)
-    same = accepted_same t ys (asked_plan given q accepted)
-
-    moderate : Moderate given
-    moderate = asked_moderate given q accepted
-
-    loaded_same : (j : ℕ) → j ≤ given.placed → loaded from ys j ≡ load (task_of given) (piece_of given) j from.piece from.deadline
-    loaded_same j h = sym (load_same (task_of given) (piece_of given) (lent_piece ys) j (λ i l. same.pieces i (omega arith)) from.piece from.deadline)
-
-    bears : (j : ℕ) → j < given.placed → (z : Piece) → piece_of given j ≡ z → (x : ℕ) → x + pressure_on from z < 4294967296 → Bearable (with_bound from x) z
-    unfolding pressure_on
-    bears j l z e x h = record {
-      own = rw e at (moderate.owned j l);
-      asked = moderate.owned q (asked_place given q accepted);
-      positive = rw e at (moderate.positive j l);
-      fits = rw e at (moderate.fits j l);
-      most = rw e at (moderate.most j l);
-      near = local_small given moderate q (asked_place given q accepted);
-      room = h;
-    }
-
-    small : (j : ℕ) → j < given.placed → from.bound + loaded from ys j + pressure_on from (lent_piece ys j) < 4294967296
-    small j l =
-        let inside : q < given.placed = asked_place given q accepted in
-        omega (
-          arith,
-          loaded_more from ys j,
-          loaded_same (suc j) l,
-          load_small given moderate from.piece from.deadline (suc j) (local_small given moderate q inside) l,
-          moderate.few,
-          moderate.fits q inside,
-          moderate.most q inside,
-        )
-
-    known : bounding_of (up_to added given.placed from ys) ≡ bound_asked given q
-    unfolding bound
-    known =
-        let e : from.bound + loaded from ys given.placed ≡ bound (task_of given) (piece_of given) given.placed q = ap (λ (x : ℕ). from.bound + x) (loaded_same given.placed (le_refl _)) in
-        rw (added_up from ys given.placed, asked_by given q, accepted, e)
-
-  -- what adding the pieces up asks
-  pub starts : (started.reach ≤ length ys) × ((j : ℕ) → j < started.reach → Bearable (up_to added j started ys) (lent_piece ys j))
-  starts = go (asked_of given q) refl
-    where
-      go : (a : Answer) → asked_of given q ≡ a → (started.reach ≤ length ys) × ((j : ℕ) → j < started.reach → Bearable (up_to added j started ys) (lent_piece ys j))
-      go (Refused r) h = rw (begun_by given q (Refused r) h) (omega arith, λ j l. absurd (omega arith))
-      go Accepted h =
-          rw (begun_by given q Accepted h) (
-            omega (arith, (same h).placed),
-            λ j l. rw (added_up (from h) ys j) (bears h j l (lent_piece ys j) ((same h).pieces j l) ((from h).bound + loaded (from h) ys j) (small h j l)),
-          )
-
-  -- what has been added up in the end
-  pub sums_up : bounding_of (up_to added started.reach started ys) ≡ bound_lent t ys q
+-- p is the plan record of the list
+module _ (t : Table) (ys : List Piece) (q : ℕ) (p : Plan) (is : p ≡ recorded t ys) where
+  by_answer : bound_lent t ys q ≡ unless_refused (asked_of p q) (Ok (known (local_deadline (task_of p) (piece_of p) q) (bound (task_of p) (piece_of p) p.placed q)))
   unfolding bound_lent
-  sums_up = go (asked_of given q) refl ∙ asked_lent t ys q
-    where
-      go : (a : Answer) → asked_of given q ≡ a → bounding_of (up_to added started.reach started ys) ≡ bound_asked given q
-      go (Refused r) h = rw (begun_by given q (Refused r) h, asked_by given q, h)
-      go Accepted h = rw (begun_by given q Accepted h) (known h)
+  by_answer = rw is (sym (asked_lent t ys q) ∙ asked_by (recorded t ys) q)
+
+  -- what the plan is refused with, the list is
+  pub lent_refused : (r : Refusal) → asked_of p q ≡ Refused r → bound_lent t ys q ≡ Err r
+  lent_refused r h = by_answer ∙ rw h
+
+  module _ (accepted : asked_of p q ≡ Accepted) where
+    -- the bound of the plan's piece is the list's
+    pub lent_known : bound_lent t ys q ≡ Ok (known (local_deadline (task_of p) (piece_of p) q) (bound (task_of p) (piece_of p) p.placed q))
+    lent_known = by_answer ∙ rw accepted
+
+    same : SamePlan p (lent_plan t ys)
+    same = rw is (accepted_same t ys (asked_plan (recorded t ys) q (rw is at accepted)))
+
+    -- the list has the plan's pieces
+    lent_each : (i : ℕ) → i < length ys → get_or ys i no_piece ≡ piece_of p i
+    lent_each i h = sym (same.pieces i (omega (arith, same.placed)))
+
+    -- so its numbers are as moderate, and its loads are the same
+    pub lent_moderate : Moderate (listed p.tasks ys)
+    lent_moderate = list_moderate p ys (sym same.placed) lent_each (asked_moderate p q accepted)
+
+    pub lent_load : (b : Piece) (L : ℕ) → load (task_of (listed p.tasks ys)) (piece_of (listed p.tasks ys)) (length ys) b L ≡ load (task_of p) (piece_of p) p.placed b L
+    lent_load = list_load p ys (sym same.placed) lent_each

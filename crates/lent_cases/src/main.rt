@@ -10,7 +10,7 @@ use std::io;
 use tasks::{CoreNo, Refusal, Table, Task, TaskNo};
 
 // The bound of piece q, the four pieces being lent.
-fn bound_over(table: Table, pieces: [Piece; 4], q: usize) -> Bounding
+fn bound_over(table: Table, pieces: [Piece; 4], q: usize) -> Result<Bounding, Refusal>
     ensures { result ≡ bound_lent table pieces q }
 {
     lending::lent_bound(table, &pieces, q)
@@ -25,30 +25,15 @@ fn piece(task: u8, core: u8, kind: Kind, cost: u32) -> Piece {
     }
 }
 
-fn wide(x: u32) -> u64 {
-    x as u64
-}
-
 // A line with a bound and its margin, or with the refusal's number where it is 8.
-fn print(rt: &impl Print, answer: Bounding) -> io::Result<()> {
+fn print(rt: &impl Print, answer: Result<Bounding, Refusal>) -> io::Result<()> {
     match answer {
-        Bounding::Known { bound, margin } => {
-            let bound = wide(bound);
-            match margin {
-                Margin::Left(rest) => {
-                    let rest = wide(rest);
-                    println!(rt; "bound {bound} left {rest}")
-                }
-                Margin::Over(more) => {
-                    let more = wide(more);
-                    println!(rt; "bound {bound} over {more}")
-                }
-            }
-        }
-        Bounding::Refused(refusal) => match refusal {
-            Refusal::NoPlanShape => println!(rt; "refused 8"),
-            _ => println!(rt; "refused"),
+        Ok(Bounding { bound, margin }) => match margin {
+            Margin::Left(rest) => println!(rt; "bound {bound} left {rest}"),
+            Margin::Over(more) => println!(rt; "bound {bound} over {more}"),
         },
+        Err(Refusal::NoPlanShape) => println!(rt; "refused 8"),
+        Err(_) => println!(rt; "refused"),
     }
 }
 

@@ -2,10 +2,15 @@
 #![tactic(auto)]
 
 use files::Default;
+use texts::Text;
 
 // The lent bytes have room for every listing.
 fn main(rt: HostRuntime) {
-    let mut text = [0u8; 16384];
-    let n = planlines::lister(&mut text, 0, console::read_table(&rt, Default::Eight));
-    console::print(&text, n);
+    let mut bytes = [0u8; 16384];
+    let mut text = Text {
+        bytes: &mut bytes,
+        end: 0,
+    };
+    planlines::lister(&mut text, console::read_table(&rt, Default::Eight));
+    console::print(text.said());
 }

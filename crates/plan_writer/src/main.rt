@@ -2,14 +2,12 @@
 #![tactic(auto)]
 
 use files::Default;
-use writing::Written;
 
 // The lent bytes have room for every plan file.
 fn main(rt: HostRuntime) {
     let mut file = [0u8; 2244];
-    let written = planfile::plan_file(console::read_table(&rt, Default::Eight), &mut file);
-    match written {
-        Written::Length(n) => console::print(&file, n),
-        Written::Refused(refusal) => console::complain(refusal),
+    match planfile::plan_file(console::read_table(&rt, Default::Eight), &mut file) {
+        Ok(n) => console::print(&file[..n.min(2244)]),
+        Err(refusal) => console::complain(refusal),
     }
 }

@@ -1,32 +1,28 @@
 -- The three ways in which the plan file of a table file comes out.
-use mathlib.Core.Path.{◌≡◌, refl, sym, ap, ◌∙◌}
+use mathlib.Core.Path.{◌≡◌, refl}
 use mathlib.Core.List.{List}
 use Prim.Native.Nat.{ℕ}
-use Rattle.tasks.specs.declared.Answer.TheVariants.{Accepted, Refused}
+use Rattle.std.specs.Prelude.{Result, Ok, Err}
 use Rattle.tasks.specs.declared.Refusal.{Refusal}
+use Rattle.tasks.specs.declared.Table.{Table}
+use Rattle.plans.specs.declared.Plan.{Plan}
 use Rattle.planner.specs.Layout.{planned}
-use Rattle.planner.specs.declared.Planned.{Planned}
-use Rattle.files.specs.declared.ReadTable.{ReadTable}
 use Rattle.writing.specs.Writing.{plan_written, plan_filled}
-use Rattle.writing.specs.declared.Written.{Written}
-use Rattle.writing.specs.declared.Written.TheVariants as written
 use Rattle.planfile.specs.PlanFile.{file_written, file_filled}
 
-module _ (r : ReadTable) (lent : List ℕ) where
+module _ (r : Result Table Refusal) (lent : List ℕ) where
   -- the file was refused
-  pub not_read : (x : Refusal) → r.answer ≡ Refused x → (written.Refused x ≡ file_written r lent) × (lent ≡ file_filled r lent)
+  pub not_read : (x : Refusal) → r ≡ Err x → (Err x ≡ file_written r lent) × (lent ≡ file_filled r lent)
   unfolding file_written file_filled
   not_read x h = rw h (refl, refl)
 
-  module _ (good : r.answer ≡ Accepted) (p : Planned) (is : p ≡ planned r.table) where
+  module _ (t : Table) (good : r ≡ Ok t) where
     -- the table was not placed
-    pub not_planned : (x : Refusal) → p.answer ≡ Refused x → (written.Refused x ≡ file_written r lent) × (lent ≡ file_filled r lent)
+    pub not_planned : (x : Refusal) → planned t ≡ Err x → (Err x ≡ file_written r lent) × (lent ≡ file_filled r lent)
     unfolding file_written file_filled
-    not_planned x h = rw (good, ← is, h) (refl, refl)
+    not_planned x h = rw (good, h) (refl, refl)
 
     -- its plan was written, or there was no room
-    pub was_written : p.answer ≡ Accepted → (w : Written) (bytes : List ℕ) → (w ≡ plan_written p.plan lent) × (bytes ≡ plan_filled p.plan lent) → (w ≡ file_written r lent) × (bytes ≡ file_filled r lent)
+    pub was_written : (p : Plan) → planned t ≡ Ok p → (w : Result ℕ Refusal) (bytes : List ℕ) → (w ≡ plan_written p lent) × (bytes ≡ plan_filled p lent) → (w ≡ file_written r lent) × (bytes ≡ file_filled r lent)
     unfolding file_written file_filled
-    was_written h w bytes e =
-        let made : (planned r.table).answer ≡ Accepted = ap (λ (q : Planned). q.answer) (sym is) ∙ h in
-        rw (good, made) (rw is at e.0, rw is at e.1)
+    was_written p h w bytes e = rw (good, h) e

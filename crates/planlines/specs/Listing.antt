@@ -1,14 +1,14 @@
 -- What the lister prints, byte for byte.
-use Rattle.std.specs.Prelude.{List, ◌++◌, ℕ, min}
+use Rattle.std.specs.Prelude.{Result, List, ◌++◌, ℕ, min}
 use Rattle.tasks.specs.Below.{row}
+use Rattle.tasks.specs.declared.Refusal.{Refusal}
+use Rattle.tasks.specs.declared.Table.{Table}
 use Rattle.plans.specs.Pieces.{piece_of}
 use Rattle.plans.specs.declared.Kind.{Kind}
 use Rattle.plans.specs.declared.Kind.TheVariants.{Whole, Share}
 use Rattle.plans.specs.declared.Piece.{Piece}
 use Rattle.plans.specs.declared.Plan.{Plan}
 use Rattle.planner.specs.Layout.{planned}
-use Rattle.planner.specs.declared.Planned.{Planned}
-use Rattle.files.specs.declared.ReadTable.{ReadTable}
 use Rattle.texts.specs.Telling.{answer_text}
 use Rattle.texts.specs.Text.{ascii, decimal}
 
@@ -38,8 +38,8 @@ listing_most = 8886
 unfoldable pub listing_text : Plan → List ℕ
 listing_text p = head_text p.cores p.count ++ row (min p.placed 128) (λ j. piece_text (piece_of p j))
 
-abbrev pub planned_text : Planned → List ℕ
-planned_text l = answer_text l.answer (listing_text l.plan)
+abbrev pub planned_text : Result Plan Refusal → List ℕ
+planned_text l = answer_text l listing_text
 
-unfoldable pub lister_text : ReadTable → List ℕ
-lister_text r = answer_text r.answer (planned_text (planned r.table))
+unfoldable pub lister_text : Result Table Refusal → List ℕ
+lister_text r = answer_text r (λ t. planned_text (planned t))

@@ -1,7 +1,10 @@
 -- What a piece allows, and a core's limit, one piece more at a time.
-use mathlib.Core.Path.{◌≡◌, refl}
+use mathlib.Core.Path.{◌≡◌, refl, sym}
 use Prim.Native.Nat.{ℕ, ◌+◌, ◌-◌, ◌≤◌, ◌<◌, min}
-use native.Mathlib.Nat.{zero-div}
+use native.Mathlib.Nat.{zero-div, div-eq_of_lt-le}
+use Rattle.std.specs.Int.{div_ceil}
+use Rattle.std.proofs.lemmas.Grind.{div_ceil_times}
+use Rattle.plans.specs.Interference.{periods}
 use native.Mathlib.Numerals.{add-one}
 use native.Mathlib.Omega.{arith}
 use borrow.Author.Tests.{eq-eqb, ne_eqb}
@@ -10,6 +13,11 @@ use Rattle.plans.specs.Pieces.{task_of, piece_of}
 use Rattle.plans.specs.declared.Plan.{Plan}
 use Rattle.planner.proofs.Limits.{limit_le}
 use Rattle.planner.specs.Limit.{allowance, limit_of}
+
+-- how often a period fits into a length, rounded up
+pub periods_is : (p L : ℕ) → 0 < p → div_ceil L p ≡ periods p L
+unfolding periods
+periods_is p L h = sym (div-eq_of_lt-le {k = div_ceil L p} p (omega (arith, div_ceil_times L p h)) (omega (arith, div_ceil_times L p h)))
 
 -- a piece without a margin allows nothing
 pub no_margin : (w : Plan) (p q : ℕ) → local_deadline (task_of w) (piece_of w) q ≤ bound (task_of w) (piece_of w) w.placed q → allowance w p q ≡ 0

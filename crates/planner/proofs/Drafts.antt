@@ -14,7 +14,7 @@ use Rattle.tasks.proofs.Padded.{padded_in}
 use Rattle.tasks.proofs.Tables.{GoodTable, Ranges, accepted_good}
 use Rattle.tasks.specs.Tables.{no_task, checked_table}
 use Rattle.tasks.specs.Tables as table
-use Rattle.tasks.specs.declared.Answer.TheVariants.{Accepted}
+use Rattle.tasks.specs.Answers.{Accepted}
 use Rattle.tasks.specs.declared.Table.{Table}
 use Rattle.tasks.proofs.Tabulate.{replicate_at}
 use Rattle.bounds.specs.Leaves.{Moderate}

@@ -1,8 +1,9 @@
 -- A task finds no place in a draft exactly if no open core takes it whole and the limits of the open cores add up to less than its c.
+use Rattle.std.proofs.lemmas.Option.{none-some}
 use mathlib.Core.Path.{◌≡◌, sym, ◌∙◌}
 use mathlib.Core.Logic.{◌⊎◌, inl, inr}
 use mathlib.Core.Bool.{true, false, not, ◌&&◌, ◌||◌}
-use mathlib.Core.Option.{none}
+use Rattle.std.specs.Prelude.{None}
 use Prim.Native.Nat.{ℕ, ◌<◌}
 use native.Mathlib.Omega.{arith}
 use lib.Dec.{leb, eqb}
@@ -19,7 +20,6 @@ use Rattle.planner.proofs.Drafts.{LaidBefore, drafted_few}
 use Rattle.planner.proofs.Keeps.{place_whole, place_shared}
 use Rattle.planner.proofs.Offered.{ready_alone}
 use Rattle.planner.proofs.RunsOut.{shares_out}
-use Rattle.planner.proofs.Sharing.{none_some}
 use Rattle.planner.specs.Asked.{OwnDeadlines, Alone}
 use Rattle.planner.specs.Layout.{place}
 use Rattle.planner.specs.NotPlaceable.{Over, NotWhole, open_limit}
@@ -75,18 +75,18 @@ module _ (d : Draft) (i : ℕ) (R : LaidBefore i d) (known : i < d.plan.count) w
   own = ready_alone i d R (omega (arith, drafted_few i _ 0 d R, R.good.cores.1, R.good.tasks.1))
 
   -- the cores run out exactly if they have too little room
-  out : (share_from d i (task_of d.plan i).cost 0 d.plan.cores ≡ none → sum d.plan.cores (open_limit d i) < (task_of d.plan i).cost)
-      × (sum d.plan.cores (open_limit d i) < (task_of d.plan i).cost → share_from d i (task_of d.plan i).cost 0 d.plan.cores ≡ none)
+  out : (share_from d i (task_of d.plan i).cost 0 d.plan.cores ≡ None → sum d.plan.cores (open_limit d i) < (task_of d.plan i).cost)
+      × (sum d.plan.cores (open_limit d i) < (task_of d.plan i).cost → share_from d i (task_of d.plan i).cost 0 d.plan.cores ≡ None)
   out = shares_out d i _ R.long (omega (arith, drafted_few i _ 0 d R, R.good.cores.1, R.good.tasks.1)) (R.good.values i known).some
 
   -- a task that finds no place is short of room
-  pub none_says : place d i ≡ none → Short
+  pub none_says : place d i ≡ None → Short
   none_says h = go (either (any d.plan.cores (takes_whole d i)))
     where
       go : (any d.plan.cores (takes_whole d i) ≡ true) ⊎ (any d.plan.cores (takes_whole d i) ≡ false) → Short
-      go (inl e) = none_some (sym h ∙ place_whole d i e)
+      go (inl e) = absurd (none-some _ (sym h ∙ place_whole d i e))
       go (inr e) = ((λ x l free. takes_not d i x own (any_each d.plan.cores (takes_whole d i) e x l) free), out.0 (sym (place_shared d i e) ∙ h))
 
   -- a task that is short of room finds no place
-  pub says_none : Short → place d i ≡ none
+  pub says_none : Short → place d i ≡ None
   says_none s = place_shared d i (any_none d.plan.cores (takes_whole d i) (λ x b. not_takes d i x own (s.0 x b))) ∙ out.1 s.1

@@ -1,5 +1,5 @@
--- Laws of the plan that a layout begins with, and what a draft that the layout reaches offers the searches.
-use Prim.Native.Nat.{ℕ, ◌+◌, ◌≤◌, ◌<◌}
+-- What a draft that the layout reaches offers the searches.
+use Prim.Native.Nat.{ℕ, ◌≤◌, ◌<◌}
 use Rattle.bounds.specs.Bound.{local_deadline}
 use Rattle.planner.proofs.Drafts.{LaidBefore, start_task}
 use Rattle.planner.proofs.Keeps.{lay_keeps}
@@ -8,39 +8,19 @@ use Rattle.planner.proofs.Reached.{lay_ready, lay_few, lay_moderate}
 use Rattle.planner.specs.Layout.{start, laid, lay_first}
 use Rattle.planner.specs.Whole.{put, whole_piece}
 use Rattle.planner.specs.declared.Draft.{Draft}
-use Rattle.plans.specs.Pieces.{no_piece, task_of, piece_of, costs}
+use Rattle.plans.specs.Pieces.{task_of, piece_of, costs}
 use Rattle.plans.specs.declared.Piece.{Piece}
-use Rattle.plans.specs.declared.Plan.{Plan}
 use Rattle.plans.proofs.SamePlans.{costs_same}
 use Rattle.plans.proofs.Shaped.{whole_first}
-use Rattle.tasks.proofs.Padded.{padded_none, padded_more}
 use Rattle.tasks.proofs.Tables.{GoodTable, Ranges, accepted_good}
-use Rattle.tasks.specs.Below.{padded}
 use Rattle.tasks.specs.Tables as table
 use Rattle.tasks.specs.Tables.{no_task, checked_table}
-use Rattle.tasks.specs.declared.Answer.TheVariants.{Accepted}
+use Rattle.tasks.specs.Answers.{Accepted}
 use Rattle.tasks.specs.declared.Table.{Table}
-use lib.ListN.{replicate, length-replicate, set, get_or-replicate}
-use mathlib.Core.Path.{◌≡◌, refl}
+use mathlib.Core.Path.{◌≡◌}
 use native.Mathlib.Decide.{ℕ_discrete}
 use native.Mathlib.Omega.{arith}
 use Rattle.planner.specs.Asked.{Ready, Alone}
-
--- the plan that begins with the first k tasks of a table
-unfoldable pub begun_with : Table → ℕ → Plan
-begun_with t k = record { cores = t.cores; count = t.count; tasks = padded 64 k no_task (table.task_of t); placed = 0; pieces = replicate 128 no_piece }
-
-pub begun_none : (t : Table) → record { cores = t.cores; count = t.count; tasks = replicate 64 no_task; placed = 0; pieces = replicate 128 no_piece } ≡ begun_with t 0
-unfolding begun_with
-begun_none t = rw (← padded_none 64 no_task (table.task_of t) (replicate 64 no_task) (length-replicate 64 no_task) (λ i h. get_or-replicate 64 i no_task no_task h))
-
-pub begun_turn : (t : Table) (k : ℕ) (w : Plan) → k < 64 → w ≡ begun_with t k → record { cores = w.cores; count = w.count; tasks = set w.tasks k (table.task_of t k); placed = w.placed; pieces = w.pieces } ≡ begun_with t (k + 1)
-unfolding begun_with
-begun_turn t k w h e = rw (e, ← padded_more 64 no_task k (table.task_of t) h)
-
-pub begun_all : (t : Table) → begun_with t t.count ≡ (start t).plan
-unfolding begun_with start
-begun_all t = refl
 
 -- with task i added whole, each whole piece is its task's first, so its local deadline is its task's deadline
 pub ready_alone : (i : ℕ) (d : Draft) → LaidBefore i d → d.plan.placed < 128 → Alone d.plan i

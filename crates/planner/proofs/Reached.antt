@@ -1,13 +1,14 @@
 -- Every draft that the layout of a good table reaches.
+use Rattle.std.proofs.lemmas.Option.{same_Some}
 use mathlib.Core.Path.{◌≡◌, refl, sym, ◌∙◌, subst}
 use mathlib.Core.Bool.{Bool, true, false}
-use mathlib.Core.Option.{some}
+use Rattle.std.specs.Prelude.{Some}
 use Prim.Native.Nat.{ℕ, zero, suc, ◌+◌, ◌≤◌, ◌<◌}
 use native.Mathlib.Omega.{arith}
 use Rattle.tasks.proofs.Below.{first_holds}
 use Rattle.tasks.specs.Below.{any, first}
 use Rattle.tasks.specs.Tables.{checked_table}
-use Rattle.tasks.specs.declared.Answer.TheVariants.{Accepted}
+use Rattle.tasks.specs.Answers.{Accepted}
 use Rattle.tasks.specs.declared.Table.{Table}
 use Rattle.bounds.specs.Leaves.{Moderate}
 use Rattle.plans.specs.Pieces.{task_of}
@@ -16,17 +17,17 @@ use Rattle.planner.specs.Whole.{takes_whole}
 use Rattle.planner.specs.declared.Draft.{Draft}
 use Rattle.planner.proofs.Drafts.{LaidBefore, drafted_few, drafted_moderate, start_ready}
 use Rattle.planner.proofs.Keeps.{Placed, place_whole, place_shared, lay_last, lay_keeps, laid_is}
-use Rattle.planner.proofs.Sharing.{share_ready, some_is}
+use Rattle.planner.proofs.Sharing.{share_ready}
 use Rattle.planner.proofs.Wholes.{whole_ready}
 
 -- a task that finds its place leaves a draft with the next task to lay out
-pub place_ready : (i : ℕ) (d v : Draft) → LaidBefore i d → i < d.plan.count → place d i ≡ some v → LaidBefore (suc i) v
+pub place_ready : (i : ℕ) (d v : Draft) → LaidBefore i d → i < d.plan.count → place d i ≡ Some v → LaidBefore (suc i) v
 place_ready i d v R known e = go _ refl
   where
     go : (b : Bool) → any d.plan.cores (takes_whole d i) ≡ b → LaidBefore (suc i) v
     go true a =
         let f : (first d.plan.cores (takes_whole d i) < d.plan.cores) × (takes_whole d i (first d.plan.cores (takes_whole d i)) ≡ true) = first_holds d.plan.cores (takes_whole d i) a in
-        subst (LaidBefore (suc i)) (some_is (sym (place_whole d i a) ∙ e)) (whole_ready i d R known _ f.0 f.1)
+        subst (LaidBefore (suc i)) (same_Some _ _ (sym (place_whole d i a) ∙ e)) (whole_ready i d R known _ f.0 f.1)
     go false a = share_ready i d.plan.cores 0 (task_of d.plan i).cost d v R known (R.good.values i known).some (omega arith) (sym (place_shared d i a) ∙ e)
 
 module _ (t : Table) (good : checked_table t ≡ Accepted) where

@@ -1,8 +1,9 @@
 -- Sharing runs out of cores exactly if the limits of the open cores, as they stand before it, add up to less than the need.
+use Rattle.std.proofs.lemmas.Option.{none-some}
 use mathlib.Core.Path.{◌≡◌, refl, sym, ap, ◌∙◌}
 use mathlib.Core.Logic.{◌⊎◌, inl, inr}
 use mathlib.Core.Bool.{Bool, true, false, ◌||◌, cond}
-use mathlib.Core.Option.{none, some}
+use Rattle.std.specs.Prelude.{None, Some}
 use Prim.Native.Nat.{ℕ, zero, suc, ◌+◌, ◌-◌, ◌≤◌, ◌<◌}
 use native.Mathlib.Numerals.{add-one}
 use native.Mathlib.Omega.{arith}
@@ -15,7 +16,6 @@ use Rattle.tasks.specs.Below.{sum}
 use Rattle.plans.specs.Pieces.{task_of}
 use Rattle.planner.proofs.OtherCores.{limit_kept}
 use Rattle.planner.proofs.Put.{put_length}
-use Rattle.planner.proofs.Sharing.{none_some}
 use Rattle.planner.specs.Limit.{limit}
 use Rattle.planner.specs.NotPlaceable.{open_limit}
 use Rattle.planner.specs.Shared.{share_piece, give_share, close, share_from}
@@ -64,7 +64,7 @@ skipped false l (inr h) = eqb-true l 0 h
 
 -- the cores run out exactly if they have less room than is needed
 abbrev Out : Draft → ℕ → ℕ → ℕ → ℕ → Type 0
-Out d i need x f = (share_from d i need x f ≡ none → rooms d i x f < need) × (rooms d i x f < need → share_from d i need x f ≡ none)
+Out d i need x f = (share_from d i need x f ≡ None → rooms d i x f < need) × (rooms d i x f < need → share_from d i need x f ≡ None)
 
 -- core by core, for any draft
 runs_out : (i f x need : ℕ) (d : Draft) → length d.plan.pieces ≡ 128 → d.plan.placed + f ≤ 128 → 1 ≤ need → Out d i need x f
@@ -84,8 +84,8 @@ runs_out i (suc f) x need d long few needed = go _ _ _ refl refl refl (runs_out 
     whole : is_closed d.closed x || eqb most 0 ≡ false → open_limit d i x ≡ most
     whole p = let free : is_closed d.closed x ≡ false = (neither {a = is_closed d.closed x} p).0 in rw free
 
-    found : (v : Draft) → share_from d i need x (suc f) ≡ some v → need ≤ open_limit d i x → Out d i need x (suc f)
-    found v e l = ((λ h. none_some (sym h ∙ e)), (λ h. absurd (omega arith)))
+    found : (v : Draft) → share_from d i need x (suc f) ≡ Some v → need ≤ open_limit d i x → Out d i need x (suc f)
+    found v e l = ((λ h. absurd (none-some _ (sym h ∙ e))), (λ h. absurd (omega arith)))
 
     go : (a b c : Bool) → is_closed d.closed x || eqb most 0 ≡ a → ltb most need ≡ b → eqb most need ≡ c
         → ((need : ℕ) (e : Draft) → length e.plan.pieces ≡ 128 → e.plan.placed + f ≤ 128 → 1 ≤ need → Out e i need (x + 1) f) → Out d i need x (suc f)
@@ -105,7 +105,7 @@ runs_out i (suc f) x need d long few needed = go _ _ _ refl refl refl (runs_out 
 
 -- over all cores
 pub shares_out : (d : Draft) (i need : ℕ) → length d.plan.pieces ≡ 128 → d.plan.placed + d.plan.cores ≤ 128 → 1 ≤ need
-    → (share_from d i need 0 d.plan.cores ≡ none → sum d.plan.cores (open_limit d i) < need) × (sum d.plan.cores (open_limit d i) < need → share_from d i need 0 d.plan.cores ≡ none)
+    → (share_from d i need 0 d.plan.cores ≡ None → sum d.plan.cores (open_limit d i) < need) × (sum d.plan.cores (open_limit d i) < need → share_from d i need 0 d.plan.cores ≡ None)
 unfolding sum
 shares_out d i need long few needed =
     let o : Out d i need 0 d.plan.cores = runs_out i d.plan.cores 0 need d long few needed in

@@ -1,7 +1,8 @@
 -- Shared: what each turn over the cores does, and that a task which finds its place this way leaves a draft with the next task to lay out.
+use Rattle.std.proofs.lemmas.Option.{none-some, same_Some}
 use mathlib.Core.Path.{◌≡◌, refl, subst}
 use mathlib.Core.Bool.{Bool, true, false, ◌||◌}
-use mathlib.Core.Option.{Option, none, some}
+use Rattle.std.specs.Prelude.{Some}
 use Prim.Native.Nat.{ℕ, zero, suc, ◌+◌, ◌-◌, ◌≤◌, ◌<◌}
 use native.Mathlib.Nat.{le_refl}
 use native.Mathlib.Omega.{arith}
@@ -17,12 +18,6 @@ use Rattle.planner.proofs.Drafts.{Drafted, LaidBefore}
 use Rattle.planner.proofs.Laid.{laid_skip}
 use Rattle.planner.proofs.Shares.{part_drafted, fit_ready, fill_ready}
 
-pub some_is : {A : Type 0} {u v : A} → some u ≡ some v → u ≡ v
-some_is e = cc
-
-pub none_some : {A B : Type 0} {v : A} → ◌≡◌ {A = Option A} none (some v) → B
-none_some e = let z : ◌≡◌ {A = ℕ} 0 1 = cc in absurd (omega arith)
-
 -- what a turn at core x does
 module _ (d : Draft) (i need x f : ℕ) where
   pub most : ℕ
@@ -31,8 +26,8 @@ module _ (d : Draft) (i need x f : ℕ) where
   pub data Turn : Type 0 where
     skip : share_from d i need x (suc f) ≡ share_from d i need (x + 1) f → Turn
     part : is_closed d.closed x ≡ false → 1 ≤ most → most < need → share_from d i need x (suc f) ≡ share_from (close (give_share d i x most) x) i (need - most) (x + 1) f → Turn
-    fill : is_closed d.closed x ≡ false → 1 ≤ most → most ≡ need → share_from d i need x (suc f) ≡ some (close (give_share d i x need) x) → Turn
-    fit : is_closed d.closed x ≡ false → need < most → share_from d i need x (suc f) ≡ some (give_share d i x need) → Turn
+    fill : is_closed d.closed x ≡ false → 1 ≤ most → most ≡ need → share_from d i need x (suc f) ≡ Some (close (give_share d i x need) x) → Turn
+    fit : is_closed d.closed x ≡ false → need < most → share_from d i need x (suc f) ≡ Some (give_share d i x need) → Turn
 
   pub turn : Turn
   unfolding share_from most
@@ -56,16 +51,16 @@ module _ (d : Draft) (i need x f : ℕ) where
 pub drafted_skip : (i need x : ℕ) (d : Draft) → Drafted i need x d → Drafted i need (x + 1) d
 drafted_skip i need x d D = record { good = D.good; long = D.long; wide = D.wide; clean = D.clean; laid = laid_skip _ _ _ _ _ _ i need x D.laid }
 
-pub share_ready : (i f x need : ℕ) (d v : Draft) → Drafted i need x d → i < d.plan.count → 1 ≤ need → x + f ≤ d.plan.cores → share_from d i need x f ≡ some v → LaidBefore (suc i) v
+pub share_ready : (i f x need : ℕ) (d v : Draft) → Drafted i need x d → i < d.plan.count → 1 ≤ need → x + f ≤ d.plan.cores → share_from d i need x f ≡ Some v → LaidBefore (suc i) v
 unfolding share_from close give_share put most
-share_ready i zero x need d v D known positive room e = none_some e
+share_ready i zero x need d v D known positive room e = absurd (none-some _ e)
 share_ready i (suc f) x need d v D known positive room e = go (turn d i need x f) (share_ready i f (x + 1))
   where
     here : x < d.plan.cores
     here = omega arith
 
-    go : Turn d i need x f → ((need : ℕ) (d v : Draft) → Drafted i need (x + 1) d → i < d.plan.count → 1 ≤ need → x + 1 + f ≤ d.plan.cores → share_from d i need (x + 1) f ≡ some v → LaidBefore (suc i) v) → LaidBefore (suc i) v
+    go : Turn d i need x f → ((need : ℕ) (d v : Draft) → Drafted i need (x + 1) d → i < d.plan.count → 1 ≤ need → x + 1 + f ≤ d.plan.cores → share_from d i need (x + 1) f ≡ Some v → LaidBefore (suc i) v) → LaidBefore (suc i) v
     go (skip t) ih = ih need d v (drafted_skip i need x d D) known positive (omega arith) (rw t at e)
     go (part free positive less t) ih = ih (need - most d i need x f) _ v (part_drafted i need x d D known here free (most d i need x f) positive (omega arith) (le_refl _)) known (omega arith) (omega arith) (rw t at e)
-    go (fill free l same t) ih = subst (LaidBefore (suc i)) (some_is (rw t at e)) (fill_ready i need x d D known here free need positive (le_refl _) (omega arith) refl)
-    go (fit free more t) ih = subst (LaidBefore (suc i)) (some_is (rw t at e)) (fit_ready i need x d D known here free need positive (le_refl _) (omega arith) refl)
+    go (fill free l same t) ih = subst (LaidBefore (suc i)) (same_Some _ _ (rw t at e)) (fill_ready i need x d D known here free need positive (le_refl _) (omega arith) refl)
+    go (fit free more t) ih = subst (LaidBefore (suc i)) (same_Some _ _ (rw t at e)) (fit_ready i need x d D known here free need positive (le_refl _) (omega arith) refl)

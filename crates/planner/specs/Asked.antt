@@ -1,16 +1,13 @@
 -- What the searches for a place ask of a plan that is being laid out, when it is task i's turn.
-use Rattle.std.specs.Prelude.{◌≡◌, Bool, true, false, cond, ℕ, ◌≤◌, ◌<◌, ltb}
-use Rattle.std.proofs.Math.Option.{Option, none, some}
+use Rattle.std.specs.Prelude.{◌≡◌, false, cond, ℕ, ◌≤◌, ◌<◌, ltb, Option, Some, None}
 use Rattle.tasks.specs.Tables.{core_no}
+use Rattle.tasks.specs.declared.CoreNo.{CoreNo}
 use Rattle.bounds.specs.Bound.{local_deadline}
 use Rattle.bounds.specs.Leaves.{Moderate}
 use Rattle.plans.specs.Pieces.{task_of, piece_of}
 use Rattle.plans.specs.Shape.{is_share}
 use Rattle.plans.specs.declared.Plan.{Plan}
 use Rattle.planner.specs.Whole.{put, whole_piece}
-use Rattle.planner.specs.declared.Draft.{Draft}
-use Rattle.planner.specs.declared.Taker.{Taker}
-use Rattle.planner.specs.declared.Taker.TheVariants.{Nowhere, Core}
 
 pub record Ready (w : Plan) (i : ℕ) : Type 0 where
   pub moderate : Moderate w
@@ -30,10 +27,5 @@ abbrev pub Alone : Plan → ℕ → Type 0
 Alone w i = (x : ℕ) → OwnDeadlines (put (whole_piece w i x) w)
 
 -- the lowest of m cores that takes a task whole, x being m where none does
-abbrev pub taker : ℕ → ℕ → Taker
-taker m x = cond (ltb x m) (Core (core_no x)) Nowhere
-
--- a draft, if the search found a place
-abbrev pub found : Bool → Draft → Option Draft
-found true d = some d
-found false d = none
+abbrev pub taker : ℕ → ℕ → Option CoreNo
+taker m x = cond (ltb x m) (Some (core_no x)) None

@@ -1,11 +1,10 @@
 -- Laying out a table: all cores begin open and empty, and tasks are taken in table order.
-use Rattle.std.specs.Prelude.{false, cond, ℕ, zero, suc, replicate}
-use Rattle.std.proofs.Math.Option.{Option, none, some}
+use Rattle.std.specs.Prelude.{false, cond, ℕ, zero, suc, replicate, Option, Some, None, Result, Ok, Err}
 use Rattle.tasks.specs.Below.{any, first, padded}
 use Rattle.tasks.specs.Tables.{no_task, task_no, checked_table}
 use Rattle.tasks.specs.Tables as table
-use Rattle.tasks.specs.declared.Answer.{Answer}
-use Rattle.tasks.specs.declared.Answer.TheVariants.{Accepted, Refused}
+use Rattle.tasks.specs.Answers.{Answer}
+use Rattle.tasks.specs.Answers.{Accepted, Refused}
 use Rattle.tasks.specs.declared.Refusal.{Refusal}
 use Rattle.tasks.specs.declared.Refusal.TheVariants.{NotPlaced}
 use Rattle.tasks.specs.declared.Table.{Table}
@@ -14,10 +13,6 @@ use Rattle.plans.specs.declared.Plan.{Plan}
 use Rattle.planner.specs.Shared.{share_from}
 use Rattle.planner.specs.Whole.{put, whole_piece, takes_whole}
 use Rattle.planner.specs.declared.Draft.{Draft}
-use Rattle.planner.specs.declared.Planned.{Planned}
-
-abbrev pub no_plan : Plan
-no_plan = record { cores = 0; count = 0; tasks = replicate 64 no_task; placed = 0; pieces = replicate 128 no_piece }
 
 -- the table's tasks, no piece, all cores open
 unfoldable pub start : Table → Draft
@@ -30,7 +25,7 @@ start t = record {
 unfoldable pub place : Draft → ℕ → Option Draft
 place d i =
     cond (any d.plan.cores (takes_whole d i))
-    (some (record { plan = put (whole_piece d.plan i (first d.plan.cores (takes_whole d i))) d.plan; closed = d.closed }))
+    (Some (record { plan = put (whole_piece d.plan i (first d.plan.cores (takes_whole d i))) d.plan; closed = d.closed }))
     (share_from d i (task_of d.plan i).cost 0 d.plan.cores)
 
 -- the first tasks laid out, or the first task that found no place
@@ -40,8 +35,8 @@ pub data Laying : Type 0 where
 
 -- task i found a place, or the table is stuck at it
 abbrev pub or_stuck : ℕ → Option Draft → Laying
-or_stuck i none = stuck i
-or_stuck i (some d) = laid d
+or_stuck i None = stuck i
+or_stuck i (Some d) = laid d
 
 abbrev pub then_place : ℕ → Laying → Laying
 then_place i (stuck k) = stuck k
@@ -51,18 +46,24 @@ unfoldable pub lay_first : Draft → ℕ → Laying
 lay_first d zero = laid d
 lay_first d (suc i) = then_place i (lay_first d i)
 
-abbrev pub refused : Refusal → Planned
-refused r = record { answer = Refused r; plan = no_plan }
+-- a refusal has no plan
+abbrev pub refused : Refusal → Result Plan Refusal
+refused r = Err r
 
 -- if the cores run out, the table is refused, naming this task; otherwise the plan
-abbrev pub outcome : Laying → Planned
-outcome (laid d) = record { answer = Accepted; plan = d.plan }
+abbrev pub outcome : Laying → Result Plan Refusal
+outcome (laid d) = Ok d.plan
 outcome (stuck i) = refused (NotPlaced (task_no i))
 
 -- a bad table gets its own refusal
-abbrev pub if_good : Answer → Planned → Planned
+abbrev pub if_good : Answer → Result Plan Refusal → Result Plan Refusal
 if_good (Refused r) p = refused r
 if_good Accepted p = p
 
-unfoldable pub planned : Table → Planned
+unfoldable pub planned : Table → Result Plan Refusal
 planned t = if_good (checked_table t) (outcome (lay_first (start t) t.count))
+
+-- what is answered, whatever the plan
+abbrev pub answered : Result Plan Refusal → Answer
+answered (Ok p) = Accepted
+answered (Err r) = Refused r

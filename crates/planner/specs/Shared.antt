@@ -1,6 +1,5 @@
 -- Shared: otherwise go over the open cores in rising order with need = c at the start.
-use Rattle.std.specs.Prelude.{true, ◌||◌, cond, ℕ, zero, suc, ◌+◌, ◌-◌, ltb, eqb, set}
-use Rattle.std.proofs.Math.Option.{Option, none, some}
+use Rattle.std.specs.Prelude.{true, ◌||◌, cond, ℕ, zero, suc, ◌+◌, ◌-◌, ltb, eqb, set, Option, Some, None}
 use Rattle.tasks.specs.Tables.{task_no, core_no}
 use Rattle.plans.specs.Pieces.{task_of}
 use Rattle.plans.specs.declared.Kind.TheVariants.{Share}
@@ -25,10 +24,10 @@ close d x = record { plan = d.plan; closed = set d.closed x true }
 -- and need falls by it. If the limit equals need, the task gets need, the core is closed, the task is placed.
 -- If the limit exceeds need, the task gets need, the core stays open, the task is placed. If the cores run out, it is not placed.
 unfoldable pub share_from : Draft → ℕ → ℕ → ℕ → ℕ → Option Draft
-share_from d i need x zero = none
+share_from d i need x zero = None
 share_from d i need x (suc f) =
     let most : ℕ = limit d.plan (task_of d.plan i).period x in
     cond (is_closed d.closed x || eqb most 0) (share_from d i need (x + 1) f)
     (cond (ltb most need) (share_from (close (give_share d i x most) x) i (need - most) (x + 1) f)
-    (cond (eqb most need) (some (close (give_share d i x need) x))
-    (some (give_share d i x need))))
+    (cond (eqb most need) (Some (close (give_share d i x need) x))
+    (Some (give_share d i x need))))

@@ -1,3 +1,4 @@
+pub mod SameKind
 pub mod Interference
 pub mod Rank
 pub mod Costs

@@ -10,9 +10,9 @@ ghost use Rattle.plans.specs.Pieces.{task_of, piece_of};
 ghost use Rattle.plans.specs.Shape as shaped;
 ghost use Rattle.plans.specs.Shape.{is_share, in_order, piece_fits, checked_plan};
 
-use tasks::{Answer, CoreNo, Refusal, Task, TaskNo};
+use tasks::{CoreNo, Refusal, Task, TaskNo};
 
-#[derive(Clone, Copy)]
+#[derive(Clone, Copy, Debug, PartialEq, Eq)]
 pub enum Kind {
     Whole,
     Share,
@@ -25,6 +25,14 @@ pub struct Piece {
     pub kind: Kind,
     pub cost: u32,
 }
+
+// The piece of all zeros, which stands where a record has none.
+pub const NO_PIECE: Piece = Piece {
+    task: TaskNo(0),
+    core: CoreNo(0),
+    kind: Kind::Whole,
+    cost: 0,
+};
 
 // The first `count` of `tasks` and the first `placed` of `pieces` are the plan's; the others are not read.
 #[derive(Clone, Copy)]
@@ -60,27 +68,13 @@ pub fn interferes(e: u32, p: u32, l: u32) -> u32
 pub fn outranks(a: Piece, a_deadline: u32, b: Piece, b_deadline: u32) -> bool
     ensures { result ≡ rank.outranks a.kind a_deadline a.task.0 b.kind b_deadline b.task.0 }
 {
-    let a_kind = a.kind;
-    let b_kind = b.kind;
     let i = a.task.index();
     let k = b.task.index();
-    match a_kind {
-        Kind::Share => match b_kind {
-            Kind::Share => k < i,
-            Kind::Whole => true,
-        },
-        Kind::Whole => match b_kind {
-            Kind::Share => false,
-            Kind::Whole => {
-                if a_deadline < b_deadline {
-                    return true;
-                }
-                if b_deadline < a_deadline {
-                    return false;
-                }
-                i < k
-            }
-        },
+    match (a.kind, b.kind) {
+        (Kind::Share, Kind::Share) => k < i,
+        (Kind::Share, Kind::Whole) => true,
+        (Kind::Whole, Kind::Share) => false,
+        (Kind::Whole, Kind::Whole) => (a_deadline, i) < (b_deadline, k),
     }
 }
 
@@ -97,32 +91,14 @@ pub fn margin_of(deadline: u32, bound: u32) -> Margin
 
 // ---- The plan shape.
 
-// Is it a share?
-fn is_share(k: Kind) -> bool
-    ensures { result ≡ is_share k }
-{
-    match k {
-        Kind::Whole => false,
-        Kind::Share => true,
-    }
-}
-
 // May b stand right after a?
 fn follows(a: Piece, b: Piece) -> bool
     ensures { result ≡ shaped.follows a b }
 {
     let i = a.task.index();
     let k = b.task.index();
-    let a_kind = a.kind;
-    let b_kind = b.kind;
-    (k == i + 1)
-        | ((i == k) & is_share(a_kind) & is_share(b_kind) & (a.core.index() < b.core.index()))
-}
-
-fn wide(x: u32) -> u64
-    ensures { (result ≡ x) × (result < 4294967296) }
-{
-    x as u64
+    let rises = a.core.index() < b.core.index();
+    (k == i + 1) | ((i == k) & (a.kind == Kind::Share) & (b.kind == Kind::Share) & rises)
 }
 
 // x where it is kept, otherwise 0.
@@ -149,19 +125,17 @@ fn pieces_fit(plan: Plan) -> bool
     let n = plan.placed;
     let mut before = plan.pieces[0];
     let mut spent: u64 = 0;
-    let mut j = 0;
-    while j < n {
+    for j in 0..n {
         let z = plan.pieces[j];
         let i = z.task.index();
-        let cost = plan.tasks[tasks::smaller(i, 63)].cost;
-        let next = plan.pieces[tasks::smaller(j + 1, 127)];
+        let cost = plan.tasks[i.min(63)].cost;
+        let next = plan.pieces[(j + 1).min(127)];
         let more = (j + 1 < n) & (i == next.task.index());
-        spent = kept((0 < j) & (before.task.index() == i), spent) + wide(z.cost);
-        if !(in_place(plan.cores, plan.count, j, before, z) & (more | (spent == wide(cost)))) {
+        spent = kept((0 < j) & (before.task.index() == i), spent) + z.cost as u64;
+        if !(in_place(plan.cores, plan.count, j, before, z) & (more | (spent == cost as u64))) {
             return false;
         }
         before = z;
-        j += 1;
     }
     true
 }
@@ -172,33 +146,20 @@ fn shape(plan: Plan) -> bool
     ensures { result ≡ shaped.shape plan.cores plan.count (task_of plan) (piece_of plan) plan.placed }
 {
     let n = plan.placed;
-    if n < 1 {
+    if n < 1 || 128 < n || !pieces_fit(plan) {
         return false;
     }
-    if 128 < n {
-        return false;
-    }
-    if !pieces_fit(plan) {
-        return false;
-    }
-    let z = plan.pieces[n - 1];
-    z.task.index() + 1 == plan.count
+    plan.pieces[n - 1].task.index() + 1 == plan.count
 }
 
 // Is this a plan, with a good table and the shape? Any record at all may be given.
-pub fn check_plan(plan: Plan) -> Answer
+pub fn check_plan(plan: Plan) -> Result<(), Refusal>
     ensures { result ≡ checked_plan plan }
 {
-    let given = plan.tasks;
-    let answer = tasks::check_tasks(plan.cores, plan.count, given);
-    match answer {
-        Answer::Refused(_) => answer,
-        Answer::Accepted => {
-            if shape(plan) {
-                Answer::Accepted
-            } else {
-                Answer::Refused(Refusal::NoPlanShape)
-            }
-        }
+    tasks::check_tasks(plan.cores, plan.count, plan.tasks)?;
+    if shape(plan) {
+        Ok(())
+    } else {
+        Err(Refusal::NoPlanShape)
     }
 }

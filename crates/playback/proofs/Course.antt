@@ -6,29 +6,32 @@ use Prim.Native.Nat.{ℕ, zero, suc, ◌+◌, ◌-◌, ◌≤◌, ◌<◌, min}
 use native.Mathlib.Nat.{zero-add}
 use native.Mathlib.Omega.{arith}
 use lib.Dec.{ltb}
-use lib.ListN.{length, get_or, take, drop, length-take, length-drop}
-use lib.Seq.{drop-drop, ext_get_or, get_or-take, get_or-drop}
+use lib.ListN.{length, get_or, take, drop, replicate, length-take, length-drop, length-append, get_or-append}
+use lib.Seq.{drop-drop, ext_get_or, get_or-take, get_or-drop, get_or-append_right}
 use borrow.Author.Tests.{lt-ltb, le-ltb}
 use Rattle.tasks.specs.Below.{padded}
 use Rattle.tasks.specs.Places.{place_at, further}
-use Rattle.tasks.proofs.Padded.{padded_same}
-use Rattle.tasks.specs.declared.Answer.TheVariants.{Accepted, Refused}
+use Rattle.tasks.proofs.Padded.{padded_is, padded_same}
+use Rattle.tasks.proofs.Tabulate.{replicate_at}
+use Rattle.std.proofs.lemmas.List.{length-replicate}
+use Rattle.tasks.specs.Answers.{Accepted, Refused}
 use Rattle.tasks.specs.declared.Refusal.{Refusal}
 use Rattle.plans.specs.declared.Plan.{Plan}
 use Rattle.dispatch.specs.declared.State.{State}
 use Rattle.dispatch.specs.declared.Ticked.{Ticked}
-use Rattle.texts.specs.Text.{put_end, put_in}
+use Rattle.texts.specs.Puts.{Puts}
+use Rattle.texts.specs.declared.Text.{Text}
+use Rattle.std.specs.Prelude.{Result, Ok, Err}
 use Rattle.texts.proofs.Putting.{Put, put_none, put_next, put_tight}
 use Rattle.ticklines.specs.Lines.{ran_most, ticked_text}
 use Rattle.ticklines.proofs.Lengths.{ticked_few}
 use Rattle.playback.specs.Requests.{request_size, request_answer, judged}
 use Rattle.playback.specs.Players.{at_hand}
 use Rattle.playback.specs.Replay.{tick_asked, Standing, next, played_in, beginning, played_from, standing, played_on, lines_in, Comes}
-use Rattle.playback.specs.declared.Judged.{Judged}
 use Rattle.playback.specs.declared.Player.{Player}
 use Rattle.playback.specs.declared.Played.{Played}
 use Rattle.playback.specs.declared.Reached.{Reached}
-use Rattle.playback.proofs.Good.{Good, accepted_good, size_is}
+use Rattle.playback.proofs.Good.{Good, accepted_good, size_is, refused_as, accepted_as}
 
 -- a part of the bytes, as the code lends it
 part_is : (f t : ℕ) (l : List ℕ) → f ≤ t → take (t - f) (drop f l) ≡ drop f (take t l)
@@ -64,95 +67,117 @@ module _ (p : Plan) (room : ℕ) (z : Standing) where
 -- ---- the turns
 
 -- some requests of the first bytes are played: what is still to be played comes to the whole
-pub record Playing (p : Plan) (bytes : List ℕ) (count : ℕ) (lent : List ℕ) (whole : Standing) (out : List ℕ) (state : State) (at end : ℕ) : Type 0 where
+pub record Playing (p : Plan) (bytes : List ℕ) (count : ℕ) (t : Text) (whole : Standing) (u : Text) (state : State) (at : ℕ) : Type 0 where
   pub z : Standing
   pub fuel : ℕ
+  pub begins : t.end ≡ 0
   pub enough : length z.left ≤ fuel
-  pub same : played_in fuel p (length lent) z ≡ whole
+  pub same : played_in fuel p (length t.bytes.now) z ≡ whole
   pub states : state ≡ z.state
   pub within : at ≤ count
   pub lefts : drop at (take count bytes) ≡ z.left
-  pub lines : Put 0 lent (length z.said) z.said end out
+  pub lines : Put t (length z.said) z.said u
 
-pub playing_none : (p : Plan) (bytes : List ℕ) (count : ℕ) (lent : List ℕ) (s : State) → Playing p bytes count lent (played_in count p (length lent) (beginning s (take count bytes))) lent s 0 0
-playing_none p bytes count lent s = record {
+pub playing_none : (p : Plan) (bytes : List ℕ) (count : ℕ) (t : Text) (s : State) → t.end ≡ 0 → Playing p bytes count t (played_in count p (length t.bytes.now) (beginning s (take count bytes))) t s 0
+playing_none p bytes count t s e = record {
   z = beginning s (take count bytes);
   fuel = count;
+  begins = e;
   enough = omega (arith, length-take count bytes);
   same = refl;
   states = refl;
   within = omega arith;
   lefts = refl;
-  lines = put_none 0 lent (omega arith);
+  lines = put_none t (omega arith);
 }
 
-module _ (p : Plan) (bytes : List ℕ) (count : ℕ) (lent : List ℕ) (whole : Standing) (out : List ℕ) (state : State) (at end : ℕ) (y : Playing p bytes count lent whole out state at end) where
-  pub hand : take (count - at) (drop at bytes) ≡ y.z.left
+module _ {p : Plan} {bytes : List ℕ} {count : ℕ} {t : Text} {whole : Standing} {u : Text} {state : State} {at : ℕ} (y : Playing p bytes count t whole u state at) where
+  hand : take (count - at) (drop at bytes) ≡ y.z.left
   hand = part_is at count bytes y.within ∙ y.lefts
 
-  stands : played_in y.fuel p (length lent) y.z ≡ y.z → Comes count (take count bytes) whole lent out (record { state = state; at = at; length = end })
+  room_is : u.end ≡ length y.z.said
+  room_is = omega (arith, y.lines.end, y.begins)
+
+  stands : played_in y.fuel p (length t.bytes.now) y.z ≡ y.z → Comes count (take count bytes) whole t.bytes.now u.bytes.now (record { state = state; at = at; length = u.end })
   stands e =
       let here : y.z ≡ whole = sym e ∙ y.same in
       record {
         state = y.states ∙ ap (λ (z : Standing). z.state) here;
         within = y.within;
         left = y.lefts ∙ ap (λ (z : Standing). z.left) here;
-        long = y.lines.end ∙ zero-add _ ∙ ap (λ (z : Standing). length z.said) here;
-        lines = y.lines.bytes ∙ ap (λ (n : ℕ). y.z.said ++ drop n lent) (zero-add (length y.z.said)) ∙ ap (λ (z : Standing). lines_in z.said lent) here;
+        long = room_is ∙ ap (λ (z : Standing). length z.said) here;
+        lines = y.lines.bytes ∙ rw (y.begins, zero-add) (ap (λ (z : Standing). lines_in z.said t.bytes.now) here);
       }
 
   -- no room is left, or no whole request
-  pub playing_short : length out < end + 337 → Comes count (take count bytes) whole lent out (record { state = state; at = at; length = end })
-  playing_short h = stands (played_short p (length lent) y.z y.fuel (omega (arith, y.lines.end, y.lines.size)))
+  pub playing_short : length u.bytes.now < u.end + 337 → Comes count (take count bytes) whole t.bytes.now u.bytes.now (record { state = state; at = at; length = u.end })
+  playing_short h = stands (played_short p (length t.bytes.now) y.z y.fuel (omega (arith, room_is, y.lines.size)))
 
-  pub playing_stuck : (j : Judged) (x : Refusal) → j ≡ judged (take (count - at) (drop at bytes)) (place_at 0) → j.answer ≡ Refused x → Comes count (take count bytes) whole lent out (record { state = state; at = at; length = end })
-  playing_stuck j x e h = stands (played_stuck p (length lent) y.z y.fuel x (ap (λ (l : List ℕ). request_answer l (place_at 0)) (sym hand) ∙ sym (ap (λ (i : Judged). i.answer) e) ∙ h))
+  pub playing_stuck : (r : Result ℕ Refusal) (x : Refusal) → r ≡ judged (take (count - at) (drop at bytes)) (place_at 0) → r ≡ Err x → Comes count (take count bytes) whole t.bytes.now u.bytes.now (record { state = state; at = at; length = u.end })
+  playing_stuck r x e h = stands (played_stuck p (length t.bytes.now) y.z y.fuel x (ap (λ (l : List ℕ). request_answer l (place_at 0)) (sym hand) ∙ refused_as _ _ x (sym e ∙ h)))
 
-  module _ (j : Judged) (read : j ≡ judged (take (count - at) (drop at bytes)) (place_at 0)) (yes : j.answer ≡ Accepted) where
+  module _ (r : Result ℕ Refusal) (n : ℕ) (read : r ≡ judged (take (count - at) (drop at bytes)) (place_at 0)) (yes : r ≡ Ok n) where
     accepted : request_answer y.z.left (place_at 0) ≡ Accepted
-    accepted = ap (λ (l : List ℕ). request_answer l (place_at 0)) (sym hand) ∙ sym (ap (λ (i : Judged). i.answer) read) ∙ yes
+    accepted = ap (λ (l : List ℕ). request_answer l (place_at 0)) (sym hand) ∙ (accepted_as _ _ n (sym read ∙ yes)).0
 
     good : Good y.z.left
     good = accepted_good y.z.left (place_at 0) accepted
 
-    size : j.size ≡ request_size y.z.left
-    size = ap (λ (i : Judged). i.size) read ∙ ap request_size hand
+    size : n ≡ request_size y.z.left
+    size = (accepted_as _ _ n (sym read ∙ yes)).1 ∙ ap request_size hand
 
     long : length y.z.left ≤ count - at
     long = omega (arith, ap length y.lefts, length-drop at (take count bytes), length-take count bytes)
 
     -- the next request is within the bytes, and takes some
-    pub playing_within : (at + j.size ≤ count) × (0 < j.size)
+    pub playing_within : (at + n ≤ count) × (0 < n)
     playing_within = (omega (arith, size, long, good.whole, y.within), omega (arith, size, size_is y.z.left))
 
-    pub playing_next : (t : Ticked) → t ≡ tick_asked p state (take (count - at) (drop at bytes)) → end + 337 ≤ length out → {s : ℕ} {ys : List ℕ}
-        → (s ≡ put_end ran_most end out (ticked_text p.cores t)) × (ys ≡ put_in ran_most end out (ticked_text p.cores t)) → Playing p bytes count lent whole ys t.state (at + j.size) s
+    pub playing_next : (made : Ticked) → made ≡ tick_asked p state (take (count - at) (drop at bytes)) → u.end + 337 ≤ length u.bytes.now → {v : Text} → Puts ran_most (ticked_text p.cores made) u v → Playing p bytes count t whole v made.state (at + n)
     unfolding next
-    playing_next t e room {s} {ys} h = go y.fuel y.enough y.same
+    playing_next made e room {v} h = go y.fuel y.enough y.same
       where
-        tick_same : t ≡ tick_asked p y.z.state y.z.left
+        tick_same : made ≡ tick_asked p y.z.state y.z.left
         tick_same = e ∙ ap (λ (s : State). tick_asked p s (take (count - at) (drop at bytes))) y.states ∙ ap (tick_asked p y.z.state) hand
 
         line : List ℕ
         line = ticked_text p.cores (tick_asked p y.z.state y.z.left)
 
-        put : Put 0 lent (length (y.z.said ++ line)) (y.z.said ++ line) s ys
-        put = put_tight (put_next y.lines (length y.z.said + 337) 337 line (ticked_few p.cores (tick_asked p y.z.state y.z.left)) (rw tick_same at h) (omega arith) (omega (arith, y.lines.end, y.lines.size)))
+        put : Put t (length (y.z.said ++ line)) (y.z.said ++ line) v
+        put = put_tight (put_next y.lines (length y.z.said + 337) 337 line (ticked_few p.cores (tick_asked p y.z.state y.z.left)) (rw tick_same at h) (omega arith) (omega (arith, room_is, y.begins, y.lines.size)))
 
-        go : (k : ℕ) → length y.z.left ≤ k → played_in k p (length lent) y.z ≡ whole → Playing p bytes count lent whole ys t.state (at + j.size) s
+        go : (k : ℕ) → length y.z.left ≤ k → played_in k p (length t.bytes.now) y.z ≡ whole → Playing p bytes count t whole v made.state (at + n)
         go zero l q = absurd (omega (arith, size_is y.z.left, good.whole))
         go (suc k) l q = record {
           z = next p y.z;
           fuel = k;
+          begins = y.begins;
           enough = omega (arith, length-drop (request_size y.z.left) y.z.left, size_is y.z.left, good.whole);
-          same = sym (played_more p (length lent) y.z k (omega (arith, y.lines.end, y.lines.size)) accepted) ∙ q;
+          same = sym (played_more p (length t.bytes.now) y.z k (omega (arith, room_is, y.lines.size)) accepted) ∙ q;
           states = ap (λ (u : Ticked). u.state) tick_same;
           within = playing_within.0;
           lefts = ap (λ (n : ℕ). drop (at + n) (take count bytes)) size ∙ sym (drop-drop (request_size y.z.left) at (take count bytes)) ∙ ap (drop (request_size y.z.left)) y.lefts;
           lines = put;
         }
 
+-- the lent bytes may be told otherwise
+pub comes_in : {count : ℕ} {bytes lent out text : List ℕ} {z : Standing} {r : Reached} → out ≡ text → Comes count bytes z lent text r → Comes count bytes z lent out r
+comes_in e h = rw e h
+
 -- ---- the player then
+
+-- zeros read as zeros
+past_zeros : (k i : ℕ) → get_or {A = ℕ} (drop k (replicate 4096 0)) i 0 ≡ 0
+past_zeros k i = get_or-drop k (replicate 4096 0) i 0 ∙ replicate_at 4096 (k + i) 0
+
+-- the bytes from a place on, copied to the beginning of zeros
+pub left_is : (bytes moved : List ℕ) (count at : ℕ) → length bytes ≡ 4096 → count ≤ 4096 → at ≤ count → moved ≡ take (count - at) (drop at bytes)
+    → moved ++ drop (count - at) (replicate 4096 0) ≡ padded 4096 (count - at) 0 (λ i. get_or bytes (at + i) 0)
+left_is bytes moved count at full c h e =
+    let long : length moved ≡ count - at = ap length e ∙ omega (arith, length-take (count - at) (drop at bytes), length-drop at bytes) in
+    padded_is 4096 0 (count - at) _ _ (omega (arith, length-append moved (drop (count - at) (replicate 4096 0)), length-drop {A = ℕ} (count - at) (replicate 4096 0), length-replicate {A = ℕ} 4096 0))
+    (λ i l b. get_or-append moved (drop (count - at) (replicate 4096 0)) 0 i (omega (arith, long)) ∙ ap (λ (bs : List ℕ). get_or bs i 0) e ∙ get_or-take (count - at) (drop at bytes) i 0 l ∙ get_or-drop at bytes i 0)
+    (λ i l b. get_or-append_right moved (drop (count - at) (replicate 4096 0)) i 0 (omega (arith, long)) ∙ past_zeros (count - at) (i - length moved))
 
 -- made of what playing comes to
 abbrev made : Reached → ℕ → List ℕ → ℕ → Played

@@ -9,12 +9,23 @@ use lib.Dec.{ltb}
 use lib.ListN.{length, get_or, length-append, get_or-append}
 use Rattle.tasks.specs.Below.{padded}
 use Rattle.tasks.specs.Tables.{task_no}
-use Rattle.tasks.specs.declared.Answer.TheVariants.{Accepted, Refused}
+use Rattle.std.specs.Prelude.{Ok, Err}
+use Rattle.tasks.specs.Answers.{Answer, Accepted, Refused}
 use Rattle.tasks.specs.declared.Place.{Place}
+use Rattle.tasks.specs.declared.Refusal.{Refusal}
 use Rattle.tasks.specs.declared.Refusal.TheVariants.{CutShort, WrongLength}
 use Rattle.tasks.proofs.Padded.{padded_same}
 use Rattle.tasks.proofs.Answers.{accepted_not}
-use Rattle.playback.specs.Requests.{finishes, releases, tasks_at, finished_in, released_in, request_size, request_answer}
+use Rattle.playback.specs.Requests.{finishes, releases, tasks_at, finished_in, released_in, request_size, request_answer, if_good}
+
+-- what a judged request's answer is
+pub refused_as : (a : Answer) (n : ℕ) (x : Refusal) → if_good a n ≡ Err x → a ≡ Refused x
+refused_as (Refused y) n x h = cc
+refused_as Accepted n x h = cc
+
+pub accepted_as : (a : Answer) (n m : ℕ) → if_good a n ≡ Ok m → (a ≡ Accepted) × (m ≡ n)
+accepted_as (Refused y) n m h = cc
+accepted_as Accepted n m h = (refl, cc)
 
 -- both counts are at most 64, and all bytes are there
 pub record Good (s : List ℕ) : Type 0 where

@@ -8,12 +8,13 @@ use native.Mathlib.Nat.{zero-add}
 use native.Mathlib.Omega.{arith}
 use borrow.Author.Tests.{lt-ltb, le-ltb, le-leb, lt-leb, ltb-true, ltb-false}
 use lib.Dec.{ltb, leb}
+use Rattle.std.specs.Prelude.{Ok, Err}
 use lib.ListN.{length, get_or, take, drop, length-append, length-take, length-drop}
 use lib.Seq.{drop-append-le, ext_get_or, get_or-take, take_at, drop_at, drop-drop}
 use Rattle.tasks.specs.Below.{padded}
 use Rattle.tasks.proofs.Padded.{padded_in, padded_length}
-use Rattle.tasks.specs.declared.Answer.{Answer}
-use Rattle.tasks.specs.declared.Answer.TheVariants.{Accepted, Refused}
+use Rattle.tasks.specs.Answers.{Answer}
+use Rattle.tasks.specs.Answers.{Accepted, Refused}
 use Rattle.tasks.specs.declared.Refusal.{Refusal}
 use Rattle.tasks.specs.declared.Refusal.TheVariants.{CutShort}
 use Rattle.plans.specs.declared.Plan.{Plan}
@@ -183,11 +184,11 @@ parts_whole {p = p} (plays w room more text rest) k h far =
 parts_whole {p = p} (closes w more at never) k h far = sym (ends p w more k h at never)
 
 -- a whole input with an accepted plan file prints the ticks from a started player on
-pub replay_begins : (d : Default) (high low : ℕ) (file ticks : List ℕ) → length file ≡ high * 256 + low → (plan_read d file).answer ≡ Accepted
+pub replay_begins : (d : Default) (high low : ℕ) (file ticks : List ℕ) (p : Plan) → length file ≡ high * 256 + low → plan_read d file ≡ Ok p
     → replay_text d (high ∷ low ∷ (file ++ ticks))
-    ≡ ticks_text (length (high ∷ low ∷ (file ++ ticks))) (plan_read d file).plan (start (2 + length file)).place (start (2 + length file)).state (at_hand (start (2 + length file)) ++ ticks)
+    ≡ ticks_text (length (high ∷ low ∷ (file ++ ticks))) p (start (2 + length file)).place (start (2 + length file)).state (at_hand (start (2 + length file)) ++ ticks)
 unfolding replay_text
-replay_begins d high low file ticks e ok =
+replay_begins d high low file ticks p e ok =
     let bs : List ℕ = high ∷ low ∷ (file ++ ticks) in
     let long : 2 + told bs ≤ length bs = omega (arith, e, length-append file ticks) in
     let body : take (told bs) (drop 2 bs) ≡ file = take_at file ticks (told bs) e in
@@ -195,16 +196,16 @@ replay_begins d high low file ticks e ok =
     rw (le-ltb (length bs) (2 + told bs) long, body, ok, rest, e)
 
 -- the parts that are printed from a started player on, put together, are what is printed for the whole input
-pub replay_whole : (d : Default) (high low : ℕ) (file ticks text : List ℕ) → length file ≡ high * 256 + low → (plan_read d file).answer ≡ Accepted → 2 + (length file + length ticks) ≤ 18446744073709551615
-    → Parts (plan_read d file).plan (start (2 + length file)) ticks text → text ≡ replay_text d (high ∷ low ∷ (file ++ ticks))
-replay_whole d high low file ticks text e ok far parts = parts_whole parts (length (high ∷ low ∷ (file ++ ticks))) (omega (arith, length-append file ticks)) (omega arith) ∙ sym (replay_begins d high low file ticks e ok)
+pub replay_whole : (d : Default) (high low : ℕ) (file ticks text : List ℕ) (p : Plan) → length file ≡ high * 256 + low → plan_read d file ≡ Ok p → 2 + (length file + length ticks) ≤ 18446744073709551615
+    → Parts p (start (2 + length file)) ticks text → text ≡ replay_text d (high ∷ low ∷ (file ++ ticks))
+replay_whole d high low file ticks text p e ok far parts = parts_whole parts (length (high ∷ low ∷ (file ++ ticks))) (omega (arith, length-append file ticks)) (omega arith) ∙ sym (replay_begins d high low file ticks p e ok)
 
 -- an input that ends before its plan file is whole, and one whose plan file is refused, print one line
 pub replay_cut : (d : Default) (bs : List ℕ) → length bs < 2 + told bs → replay_text d bs ≡ refusal_text (CutShort (place_at 0))
 unfolding replay_text
 replay_cut d bs h = rw (lt-ltb (length bs) (2 + told bs) h)
 
-pub replay_refused : (d : Default) (high low : ℕ) (file ticks : List ℕ) (x : Refusal) → length file ≡ high * 256 + low → (plan_read d file).answer ≡ Refused x → replay_text d (high ∷ low ∷ (file ++ ticks)) ≡ refusal_text x
+pub replay_refused : (d : Default) (high low : ℕ) (file ticks : List ℕ) (x : Refusal) → length file ≡ high * 256 + low → plan_read d file ≡ Err x → replay_text d (high ∷ low ∷ (file ++ ticks)) ≡ refusal_text x
 unfolding replay_text
 replay_refused d high low file ticks x e bad =
     let bs : List ℕ = high ∷ low ∷ (file ++ ticks) in

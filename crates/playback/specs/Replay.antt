@@ -1,14 +1,14 @@
 -- A replay: the length of a plan file in two bytes, high first, that plan file, and then ticks to the end of the input.
-use Rattle.std.specs.Prelude.{◌≡◌, ◌⊎◌, cond, List, [], ◌++◌, ℕ, zero, suc, ◌+◌, ◌-◌, ◌*◌, ◌≤◌, ltb, leb, length, get_or, take, drop}
+use Rattle.std.specs.Prelude.{Result, ◌≡◌, ◌⊎◌, cond, List, [], ◌++◌, ℕ, zero, suc, ◌+◌, ◌-◌, ◌*◌, ◌≤◌, ltb, leb, length, get_or, take, drop}
 use Rattle.tasks.specs.Below.{padded}
-use Rattle.tasks.specs.declared.Answer.{Answer}
-use Rattle.tasks.specs.declared.Answer.TheVariants.{Accepted, Refused}
+use Rattle.tasks.specs.Answers.{Answer}
+use Rattle.tasks.specs.Answers.{Accepted, Refused}
+use Rattle.tasks.specs.declared.Refusal.{Refusal}
 use Rattle.tasks.specs.declared.Refusal.TheVariants.{CutShort}
 use Rattle.plans.specs.declared.Plan.{Plan}
 use Rattle.tasks.specs.Places.{place_at, further}
 use Rattle.files.specs.Files.{plan_read}
 use Rattle.files.specs.declared.Default.{Default}
-use Rattle.files.specs.declared.ReadPlan.{ReadPlan}
 use Rattle.dispatch.specs.States.{fresh_state}
 use Rattle.dispatch.specs.Tick.{tick}
 use Rattle.dispatch.specs.declared.State.{State}
@@ -44,8 +44,8 @@ ticks_text (suc k) p n s bs =
 abbrev pub told : List ℕ → ℕ
 told bs = get_or bs 0 0 * 256 + get_or bs 1 0
 
-abbrev pub opened : ReadPlan → List ℕ → List ℕ
-opened r bs = answer_text r.answer (ticks_text (length bs) r.plan (2 + told bs) fresh_state (drop (2 + told bs) bs))
+abbrev pub opened : Result Plan Refusal → List ℕ → List ℕ
+opened r bs = answer_text r (λ p. ticks_text (length bs) p (2 + told bs) fresh_state (drop (2 + told bs) bs))
 
 -- what is printed for an input, with the stated default: 1 at 0 if it ends before the plan file is whole, the plan file's refusal, or its ticks from a fresh state
 unfoldable pub replay_text : Default → List ℕ → List ℕ

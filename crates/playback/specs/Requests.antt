@@ -1,13 +1,13 @@
 -- A tick's request as bytes: one byte a (at most 64), a bytes of task numbers (finished), one byte b (at most 64), b bytes of task numbers (released). A byte past the end counts as 0.
-use Rattle.std.specs.Prelude.{cond, ◌||◌, List, ℕ, ◌+◌, ltb, length, get_or}
+use Rattle.std.specs.Prelude.{Result, Ok, Err, cond, ◌||◌, List, ℕ, ◌+◌, ltb, length, get_or}
 use Rattle.tasks.specs.Below.{padded}
 use Rattle.tasks.specs.Tables.{task_no}
-use Rattle.tasks.specs.declared.Answer.{Answer}
-use Rattle.tasks.specs.declared.Answer.TheVariants.{Accepted, Refused}
+use Rattle.tasks.specs.Answers.{Answer}
+use Rattle.tasks.specs.Answers.{Accepted, Refused}
 use Rattle.tasks.specs.declared.Place.{Place}
+use Rattle.tasks.specs.declared.Refusal.{Refusal}
 use Rattle.tasks.specs.declared.Refusal.TheVariants.{CutShort, WrongLength}
 use Rattle.jobs.specs.declared.Tasks.{Tasks}
-use Rattle.playback.specs.declared.Judged.{Judged}
 
 -- how many are finished, and how many released
 abbrev pub finishes : List ℕ → ℕ
@@ -36,6 +36,11 @@ request_answer s start =
     cond (ltb 64 (finishes s) || ltb 64 (releases s)) (Refused (WrongLength start))
     (cond (ltb (length s) (request_size s)) (Refused (CutShort start)) Accepted)
 
--- the answer for a request, and its size
-abbrev pub judged : List ℕ → Place → Judged
-judged s start = record { answer = request_answer s start; size = request_size s }
+-- the size, if the answer accepts
+abbrev pub if_good : Answer → ℕ → Result ℕ Refusal
+if_good (Refused x) size = Err x
+if_good Accepted size = Ok size
+
+-- the refusal of a request, or its size
+abbrev pub judged : List ℕ → Place → Result ℕ Refusal
+judged s start = if_good (request_answer s start) (request_size s)

@@ -10,31 +10,25 @@ ghost use Rattle.playback.specs.Replay.{tick_asked, played_in, beginning, played
 use dispatch::{State, Ticked};
 use jobs::Tasks;
 use plans::Plan;
-use tasks::{Answer, Place, Refusal, TaskNo};
+use tasks::{Place, Refusal, TaskNo};
+use texts::Text;
 
 // ---- A tick's request as bytes.
 
-// Whether a request is whole and good, and how many bytes it takes.
-#[derive(Clone, Copy)]
-struct Judged {
-    answer: Answer,
-    size: usize,
-}
-
-// Judges any bytes at all, the first of which stands at `start` of the input.
-fn judge(bytes: &[u8], start: Place) -> Judged
-    ensures { (result ≡ judged bytes.now start) × (result.size < 514) }
+// Judges any bytes at all, the first of which stands at `start` of the input: how many bytes the request takes, if it is whole and good.
+fn judge(bytes: &[u8], start: Place) -> Result<usize, Refusal>
+    ensures { result ≡ judged bytes.now start }
 {
     let a = byte_at(bytes, 0);
     let b = byte_at(bytes, 1 + a);
     let size = 2 + a + b;
-    let mut answer = Answer::Accepted;
     if (64 < a) | (64 < b) {
-        answer = Answer::Refused(Refusal::WrongLength(start));
-    } else if bytes.len() < size {
-        answer = Answer::Refused(Refusal::CutShort(start));
+        return Err(Refusal::WrongLength(start));
     }
-    Judged { answer, size }
+    if bytes.len() < size {
+        return Err(Refusal::CutShort(start));
+    }
+    Ok(size)
 }
 
 // The tasks that a request tells as finished.
@@ -57,31 +51,18 @@ fn tasks_at(bytes: &[u8], at: usize) -> Tasks
     ensures { result ≡ tasks_at bytes.now at }
 {
     let count = byte_at(bytes, at);
-    let end = tasks::smaller(count, 64);
     let mut members = [TaskNo(0); 64];
-    let mut k = 0;
-    while k < end {
+    for k in 0..count.min(64) {
         members[k] = TaskNo(byte_at(bytes, at + 1 + k) as u8);
-        k += 1;
     }
     Tasks { members, count }
-}
-
-// A byte as an index.
-fn wide(x: u8) -> usize
-    ensures { (result ≡ x) × (result < 256) }
-{
-    x as usize
 }
 
 // The byte at a place, or 0 past the end.
 fn byte_at(bytes: &[u8], i: usize) -> usize
     ensures { (result ≡ get_or bytes.now i 0) × (result < 256) }
 {
-    if i < bytes.len() {
-        return wide(bytes[i]);
-    }
-    0
+    bytes.get(i).copied().unwrap_or(0) as usize
 }
 
 // ---- Where a replay stands: how it begins, and what its end tells.
@@ -108,16 +89,15 @@ pub fn start(place: usize) -> Player
 }
 
 // At the end of the input: accepted if nothing is left, otherwise what the bytes left are judged as.
-pub fn last(player: Player) -> Answer
+pub fn last(player: Player) -> Result<(), Refusal>
     ensures { result ≡ last_answer player }
 {
-    let bytes = player.bytes;
-    let count = tasks::smaller(player.count, 4096);
+    let count = player.count.min(4096);
     if count == 0 {
-        return Answer::Accepted;
+        return Ok(());
     }
-    let judged = judge(&bytes[..count], Place(player.place));
-    judged.answer
+    judge(&player.bytes[..count], Place(player.place))?;
+    Ok(())
 }
 
 // ---- The requests at hand are played.
@@ -142,24 +122,23 @@ fn advance(out: &mut [u8], bytes: [u8; 4096], count: usize, plan: Plan, begun: S
     requires { count ≤ 4096 }
     ensures { Comes count (take count bytes) (played_in count plan (length out.old) (beginning begun (take count bytes))) out.old out.new result }
 {
+    let mut text = Text { bytes: out, end: 0 };
     let mut state = begun;
     let mut at = 0;
-    let mut end = 0;
-    while !texts::short(out.len(), end, 337) {
-        let judged = judge(&bytes[at..count], Place(0));
-        let answer = judged.answer;
-        if let Answer::Refused(_) = answer {
+    while !text.is_short(337) {
+        let next = &bytes[at..count];
+        let Ok(size) = judge(next, Place(0)) else {
             break;
-        }
-        let made = asked(plan, state, &bytes[at..count]);
-        end = ticklines::ticked(out, end, plan.cores, made);
+        };
+        let made = asked(plan, state, next);
+        ticklines::ticked(&mut text, plan.cores, made);
         state = made.state;
-        at += judged.size;
+        at += size;
     }
     Reached {
         state,
         at,
-        length: end,
+        length: text.end,
     }
 }
 
@@ -169,11 +148,7 @@ fn left(bytes: [u8; 4096], count: usize, at: usize) -> [u8; 4096]
     ensures { result ≡ padded 4096 (count - at) 0 (λ i. get_or bytes (at + i) 0) }
 {
     let mut moved = [0u8; 4096];
-    let mut i = 0;
-    while i < count - at {
-        moved[i] = bytes[at + i];
-        i += 1;
-    }
+    moved[..count - at].copy_from_slice(&bytes[at..count]);
     moved
 }
 
@@ -188,17 +163,13 @@ pub struct Played {
 pub fn play(out: &mut [u8], player: Player, plan: Plan) -> Played
     ensures { (result ≡ played_on plan player (length out.old)) × (out.new ≡ lines_in (played_from plan player (length out.old)).said out.old) }
 {
-    let bytes = player.bytes;
-    let begun = player.state;
-    let count = tasks::smaller(player.count, 4096);
-    let reached = advance(out, bytes, count, plan, begun);
-    let state = reached.state;
-    let at = reached.at;
+    let count = player.count.min(4096);
+    let reached = advance(out, player.bytes, count, plan, player.state);
     let after = Player {
-        state,
-        bytes: left(bytes, count, at),
-        count: count - at,
-        place: tasks::further(player.place, at),
+        state: reached.state,
+        bytes: left(player.bytes, count, reached.at),
+        count: count - reached.at,
+        place: tasks::further(player.place, reached.at),
     };
     Played {
         player: after,

@@ -5,8 +5,8 @@ use Prim.Native.Nat.{ℕ, ◌<◌}
 use Rattle.tasks.proofs.Below.{any_each}
 use Rattle.tasks.specs.Below.{first}
 use Rattle.tasks.specs.Tables.{task_no, and_then}
-use Rattle.tasks.specs.declared.Answer.{Answer}
-use Rattle.tasks.specs.declared.Answer.TheVariants.{Accepted, Refused}
+use Rattle.tasks.specs.Answers.{Answer}
+use Rattle.tasks.specs.Answers.{Accepted, Refused}
 use Rattle.tasks.specs.declared.Refusal.{Refusal}
 use Rattle.tasks.specs.declared.Refusal.TheVariants.{NotRun, TooSoon, StillActive}
 use Rattle.tasks.specs.declared.TaskNo.{TaskNo}

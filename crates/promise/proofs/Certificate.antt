@@ -3,7 +3,7 @@ use mathlib.Core.Path.{◌≡◌}
 use mathlib.Core.Bool.{true}
 use mathlib.Core.List.{List}
 use Prim.Native.Nat.{ℕ, ◌+◌, ◌<◌}
-use Rattle.tasks.specs.declared.Answer.TheVariants.{Accepted}
+use Rattle.tasks.specs.Answers.{Accepted}
 use Rattle.plans.proofs.InShape.{accepted_plan}
 use Rattle.plans.specs.Pieces.{piece_of, earlier}
 use Rattle.plans.specs.Shape.{is_last, checked_plan}

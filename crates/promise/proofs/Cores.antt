@@ -16,7 +16,7 @@ use Rattle.jobs.specs.Jobs.{no_run, is_active, names}
 use Rattle.dispatch.specs.States.{job_of, last_of}
 use Rattle.dispatch.specs.Rules.{piece_at}
 use Rattle.jobs.specs.Sets.{member}
-use Rattle.jobs.specs.declared.CoreRun.{CoreRun}
+use Rattle.jobs.specs.Jobs.{Runner}
 use Rattle.jobs.specs.declared.Job.{Job}
 use Rattle.jobs.specs.declared.Phase.{Phase}
 use Rattle.jobs.specs.declared.Phase.TheVariants.{Never, Active, Ended}
@@ -32,8 +32,8 @@ use Rattle.promise.proofs.Runs.{Passes, stepped, by_answer}
 use Rattle.promise.proofs.Sound.{next_piece}
 
 -- nothing is named in a refusal
-refused_names : {A : Type 0} (i x : ℕ) → names i (get_or (replicate 16 no_run) x no_run).runner ≡ true → A
-refused_names i x e = clash e (ap (λ (r : CoreRun). names i r.runner) (replicate_at 16 x no_run))
+refused_names : {A : Type 0} (i x : ℕ) → names i (get_or (replicate 16 no_run) x no_run) ≡ true → A
+refused_names i x e = clash e (ap (λ (r : Runner). names i r) (replicate_at 16 x no_run))
 
 module _ (p : Plan) (s : State) (q : Request) (ok : Passes p s q) where
   checked : GoodPlan p

@@ -4,7 +4,8 @@ use mathlib.Core.Path.{◌≡◌}
 use mathlib.Core.List.{[], ◌∷◌}
 use Prim.Native.Nat.{ℕ}
 use native.Mathlib.Omega.{arith}
-use Rattle.tasks.specs.declared.Answer.TheVariants.{Accepted}
+use Rattle.std.specs.Prelude.{Ok}
+use Rattle.tasks.specs.Answers.{Accepted}
 use Rattle.tasks.specs.declared.Table.{Table}
 use Rattle.plans.proofs.InShape.{GoodPlan, accepted_plan}
 use Rattle.plans.proofs.Rank.{above_self, above_chain}
@@ -53,5 +54,5 @@ module _ (p : Plan) (good : checked_plan p ≡ Accepted) where
       (λ q h z. omega (arith, within_cost p checked q h, checked.table.values _ (piece_fits_lem p checked q h).task))
 
 -- For every table for which the planner answers with a plan: it is a plan of that table, and no job is late.
-pub no_job_is_late : (t : Table) → (planned t).answer ≡ Accepted → PlanOf t (planned t).plan × Demand3 (planned t).plan
-no_job_is_late t h = (record { cores = planned_cores t h; count = planned_count t h; tasks = planned_tasks t h }, demand_3 (planned t).plan (planned_shape t h) (planned_certified t h))
+pub no_job_is_late : (t : Table) (p : Plan) → planned t ≡ Ok p → PlanOf t p × Demand3 p
+no_job_is_late t p h = (record { cores = planned_cores t p h; count = planned_count t p h; tasks = planned_tasks t p h }, demand_3 p (planned_shape t p h) (planned_certified t p h))

@@ -13,7 +13,9 @@ use Rattle.tasks.specs.Below.{all, any, first, sum, count, tabulate, padded}
 use Rattle.tasks.specs.Refusals as told
 use Rattle.tasks.specs.Refusals.{Refuses}
 use Rattle.tasks.specs.Tables.{task_no, core_no, no_task, checked_tasks}
-use Rattle.tasks.specs.declared.Answer.TheVariants.{Accepted}
+use Rattle.std.specs.Prelude.{Result, Ok, Err}
+use Rattle.std.specs.Result.{IsOkAnd}
+use Rattle.tasks.specs.declared.Refusal.{Refusal}
 use Rattle.tasks.specs.declared.Table.{Table}
 use Rattle.tasks.specs.declared.Task.{Task}
 use Rattle.bounds.specs.Bound.{local_deadline, load, bound}
@@ -37,8 +39,8 @@ use Rattle.jobs.specs.Sets.{member}
 use Rattle.dispatch.specs.Advance.{checked, next_state}
 use Rattle.jobs.specs.WellMade.{core_well_made, job_well_made}
 use Rattle.jobs.specs.declared.Phase.TheVariants.{Ended}
-use Rattle.jobs.specs.declared.Runner.{Runner}
-use Rattle.jobs.specs.declared.Runner.TheVariants.{Runs}
+use Rattle.jobs.specs.Jobs.{Runner}
+use Rattle.jobs.specs.Jobs.{Runs}
 use Rattle.dispatch.specs.declared.State.{State}
 use Rattle.jobs.specs.declared.Tasks.{Tasks}
 use Rattle.promise.specs.Demand3.{Due, Demand3}
@@ -90,19 +92,24 @@ meeting i j = piece i 0 Share 8 ∷ piece i 1 Share 5 ∷ piece j 1 Share 4 ∷ 
 
 -- the planner lays all three out
 record LaidOut : Type 0 where
-  board : planned six ≡ record { answer = Accepted; plan = six_plan }
-  four : (planned slope_four).answer ≡ Accepted
-  eight : (planned slope_eight).answer ≡ Accepted
-  four_meet : take 5 (drop 4 (planned slope_four).plan.pieces) ≡ meeting 4 5
-  eight_meet : take 5 (drop 8 (planned slope_eight).plan.pieces) ≡ meeting 8 9
+  board : planned six ≡ Ok six_plan
+  four : IsOkAnd (planned slope_four) (λ p. take 5 (drop 4 p.pieces) ≡ meeting 4 5)
+  eight : IsOkAnd (planned slope_eight) (λ p. take 5 (drop 8 p.pieces) ≡ meeting 8 9)
 
 laid_out : LaidOut
 unfolding six six_plan slope_four slope_eight slope meeting table_of task piece planned start lay_first place takes_whole share_from give_share close put limit_of allowance bound load local_deadline costs interference periods above all any first sum padded tabulate checked_tasks
-laid_out = record { board = refl; four = refl; eight = refl; four_meet = refl; eight_meet = refl }
+laid_out = record { board = refl; four = refl; eight = refl }
 
 -- so demand 3 holds for each
-kept : Demand3 six_plan × Demand3 (planned slope_four).plan × Demand3 (planned slope_eight).plan
-kept = (rw laid_out.board at (no_job_is_late six (rw laid_out.board)).1, (no_job_is_late slope_four laid_out.four).1, (no_job_is_late slope_eight laid_out.eight).1)
+met : (t : Table) (P : Plan → Type 0) → IsOkAnd (planned t) P → IsOkAnd (planned t) Demand3
+met t P h = go (planned t) refl h
+  where
+    go : (r : Result Plan Refusal) → planned t ≡ r → IsOkAnd r P → IsOkAnd r Demand3
+    go (Ok p) e k = (no_job_is_late t p e).1
+    go (Err r) e k = k
+
+kept : Demand3 six_plan × IsOkAnd (planned slope_four) Demand3 × IsOkAnd (planned slope_eight) Demand3
+kept = ((no_job_is_late six six_plan laid_out.board).1, met slope_four _ laid_out.four, met slope_eight _ laid_out.eight)
 
 -- ---- what the answers to a list of requests name on each core
 rows : Plan → State → List Request → List (List Runner)

@@ -24,8 +24,8 @@ use Rattle.dispatch.specs.Advance.{next_state}
 use Rattle.jobs.specs.declared.Job.{Job}
 use Rattle.jobs.specs.declared.Phase.{Phase}
 use Rattle.jobs.specs.declared.Phase.TheVariants.{Never, Active, Ended}
-use Rattle.jobs.specs.declared.Runner.{Runner}
-use Rattle.jobs.specs.declared.Runner.TheVariants.{Idle, Runs}
+use Rattle.jobs.specs.Jobs.{Runner}
+use Rattle.jobs.specs.Jobs.{Idle, Runs}
 use Rattle.dispatch.specs.declared.State.{State}
 use Rattle.jobs.specs.declared.Tasks.{Tasks}
 use Rattle.schedules.specs.Model as model

@@ -9,8 +9,8 @@ use borrow.Author.Tests.{ne_eqb}
 use Rattle.tasks.proofs.Below.{any_none, sum_none}
 use Rattle.tasks.proofs.Bools.{clash, not_first}
 use Rattle.tasks.specs.Below.{any, count}
-use Rattle.tasks.specs.declared.Answer.{Answer}
-use Rattle.tasks.specs.declared.Answer.TheVariants.{Accepted, Refused}
+use Rattle.tasks.specs.Answers.{Answer}
+use Rattle.tasks.specs.Answers.{Accepted, Refused}
 use Rattle.tasks.specs.declared.Refusal.{Refusal}
 use Rattle.tasks.proofs.Tabulate.{replicate_at}
 use Rattle.plans.proofs.InShape.{GoodPlan}
@@ -22,7 +22,7 @@ use Rattle.dispatch.specs.Tick.{judged, answered, tick}
 use Rattle.dispatch.specs.Rules.{each_job, total, turns_late, finish, mark_late, release, run, age, count_preempted}
 use Rattle.jobs.specs.Sets.{member}
 use Rattle.dispatch.specs.Advance.{next_state}
-use Rattle.jobs.specs.declared.CoreRun.{CoreRun}
+use Rattle.jobs.specs.Jobs.{Runner}
 use Rattle.jobs.specs.declared.Phase.{Phase}
 use Rattle.jobs.specs.declared.Phase.TheVariants.{Never, Active, Ended}
 use Rattle.dispatch.specs.declared.State.{State}
@@ -78,7 +78,7 @@ after_keeps p P h (q ∷ qs) s v = after_keeps p P h qs (asked p s q).state (by_
 module _ (p : Plan) (c : GoodPlan p) where
   fresh_reached : Reached (model_of p) (moment_of p fresh_state)
   unfolding fresh
-  fresh_reached = start (record { stages = λ i h. ap stage_of (replicate_at 64 i no_job); runs = λ i h. any_none p.cores _ (λ x l. ap (λ (r : CoreRun). names i r.runner) (replicate_at 16 x no_run)) })
+  fresh_reached = start (record { stages = λ i h. ap stage_of (replicate_at 64 i no_job); runs = λ i h. any_none p.cores _ (λ x l. ap (λ (r : Runner). names i r) (replicate_at 16 x no_run)) })
 
   reach_on : (qs : List Request) (s : State) → Reached (model_of p) (moment_of p s) → Reached (model_of p) (moment_of p (after p s qs))
   reach_on = after_keeps p (λ s. Reached (model_of p) (moment_of p s)) (λ s q ok r. next _ _ r (tick_step p c q.finished q.released s ok))

@@ -1,14 +1,14 @@
 -- Lists of tick requests, run one after another; a refused one counts for nothing.
 use Rattle.std.specs.Prelude.{Bool, true, false, ◌&&◌, cond, List, [], ◌∷◌, ℕ, ◌+◌, get_or}
 use Rattle.tasks.specs.Below.{any}
-use Rattle.tasks.specs.declared.Answer.{Answer}
-use Rattle.tasks.specs.declared.Answer.TheVariants.{Accepted, Refused}
+use Rattle.tasks.specs.Answers.{Answer}
+use Rattle.tasks.specs.Answers.{Accepted, Refused}
 use Rattle.plans.specs.declared.Plan.{Plan}
 use Rattle.jobs.specs.Jobs.{no_run, names}
 use Rattle.jobs.specs.Sets.{member}
 use Rattle.dispatch.specs.States.{fresh_state}
 use Rattle.dispatch.specs.Tick.{tick}
-use Rattle.jobs.specs.declared.Runner.{Runner}
+use Rattle.jobs.specs.Jobs.{Runner}
 use Rattle.dispatch.specs.declared.State.{State}
 use Rattle.jobs.specs.declared.Tasks.{Tasks}
 use Rattle.dispatch.specs.declared.Ticked.{Ticked}
@@ -45,7 +45,7 @@ tally f p s (q ∷ qs) = cond (accepts p s q && f q (asked p s q)) 1 0 + tally f
 
 -- what an answer names on core x
 abbrev pub named_on : Ticked → ℕ → Runner
-named_on t x = (get_or t.runs x no_run).runner
+named_on t x = get_or t.runs x no_run
 
 -- the accepted ticks
 abbrev pub ticks : Plan → State → List Request → ℕ

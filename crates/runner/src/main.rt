@@ -2,10 +2,15 @@
 #![tactic(auto)]
 
 use files::Default;
+use texts::Text;
 
 // The lent bytes have room for all lines.
 fn main(rt: HostRuntime) {
-    let mut text = [0u8; 16384];
-    let n = ticklines::runner(&mut text, 0, console::read_plan(&rt, Default::Eight));
-    console::print(&text, n);
+    let mut bytes = [0u8; 16384];
+    let mut text = Text {
+        bytes: &mut bytes,
+        end: 0,
+    };
+    ticklines::runner(&mut text, console::read_plan(&rt, Default::Eight));
+    console::print(text.said());
 }

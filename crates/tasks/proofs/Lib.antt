@@ -9,4 +9,5 @@ pub mod Places
 pub mod Tabulate
 pub mod Counting
 pub mod Settling
+pub mod Slices
 pub mod Settled

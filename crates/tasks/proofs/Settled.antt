@@ -2,7 +2,6 @@
 use Rattle.tasks.proofs.Settling.{Settles, settled}
 use Rattle.tasks.proofs.TaskNo.index.Reads as task-index
 use Rattle.tasks.proofs.CoreNo.index.Reads as core-index
-use Rattle.tasks.proofs.smaller.Reads as smaller
 use Rattle.tasks.proofs.further.Reads as further
 use Rattle.tasks.proofs.values_fit.Reads as values_fit_lem
 use Rattle.tasks.proofs.check_tasks.Reads as check-tasks
@@ -13,9 +12,6 @@ task_index_settled x e r s p q = settled p.0 q.0
 
 pub core_index_settled : Settles (core-index.Post tt)
 core_index_settled x e r s p q = settled p.0 q.0
-
-pub smaller_settled : Settles (smaller.Post tt)
-smaller_settled x e r s p q = settled p q
 
 pub further_settled : Settles (further.Post tt)
 further_settled x e r s p q = settled p q

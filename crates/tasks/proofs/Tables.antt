@@ -10,7 +10,7 @@ use Rattle.tasks.proofs.Bools.{both, both_make}
 use Rattle.tasks.specs.Below.{any, first}
 use Rattle.tasks.specs.Refusals.{number}
 use Rattle.tasks.specs.Tables.{task_no, cores_fit, tasks_fit, values_fit, checked_tasks}
-use Rattle.tasks.specs.declared.Answer.TheVariants.{Accepted, Refused}
+use Rattle.tasks.specs.Answers.{Accepted, Refused}
 use Rattle.tasks.specs.declared.Refusal.{Refusal}
 use Rattle.tasks.specs.declared.Refusal.TheVariants.{CoresGiven, TasksGiven, ValuesOf}
 use Rattle.tasks.specs.declared.Task.{Task}

@@ -1,20 +1,20 @@
 // The vocabulary of task tables: numbers of tasks and cores, tasks, tables, every way to say no, and the check of a table.
 #![tactic(auto)]
 
-ghost use Rattle.std.specs.Prelude.{◌≡◌, ◌&&◌, ◌<◌, min, leb, get_or};
+ghost use Rattle.std.specs.Prelude.{◌≡◌, ◌&&◌, ◌<◌, leb, get_or};
 ghost use Rattle.tasks.specs.Places.{further};
 ghost use Rattle.tasks.specs.Tables.{values_fit, no_task, checked_tasks, checked_table};
 
 // A task's number in table order: document 004's T. Never a core's.
-#[derive(Clone, Copy)]
+#[derive(Clone, Copy, Debug, PartialEq, Eq)]
 pub struct TaskNo(pub u8);
 
 // A core's number: document 004's P. Never a task's.
-#[derive(Clone, Copy)]
+#[derive(Clone, Copy, Debug, PartialEq, Eq)]
 pub struct CoreNo(pub u8);
 
 // A place in a file, in bytes from its start.
-#[derive(Clone, Copy)]
+#[derive(Clone, Copy, Debug, PartialEq, Eq)]
 pub struct Place(pub usize);
 
 #[derive(Clone, Copy)]
@@ -23,6 +23,13 @@ pub struct Task {
     pub deadline: u32,
     pub period: u32,
 }
+
+// The task of all zeros, which stands where a record has none.
+pub const NO_TASK: Task = Task {
+    cost: 0,
+    deadline: 0,
+    period: 0,
+};
 
 // The first `count` of `tasks` are the table's; the others are not read.
 #[derive(Clone, Copy)]
@@ -33,7 +40,7 @@ pub struct Table {
 }
 
 // A refusal of document 01, with what it tells. 4, 5 and 6 tell a place for a file and a number for a record.
-#[derive(Clone, Copy)]
+#[derive(Clone, Copy, Debug, PartialEq, Eq)]
 pub enum Refusal {
     CutShort(Place),
     WrongTag(Place),
@@ -53,20 +60,13 @@ pub enum Refusal {
     BufferShort(usize),
 }
 
-// What a call that can refuse answers.
-#[derive(Clone, Copy)]
-pub enum Answer {
-    Accepted,
-    Refused(Refusal),
-}
-
 impl TaskNo {
     // The number as an index into a table's tasks or a state's jobs.
     pub fn index(self) -> usize
         ensures { (result ≡ self.0) × (result < 256) }
     {
-        let task = self.0;
-        task as usize
+        let TaskNo(task) = self;
+        usize::from(task)
     }
 }
 
@@ -75,42 +75,23 @@ impl CoreNo {
     pub fn index(self) -> usize
         ensures { (result ≡ self.0) × (result < 256) }
     {
-        let core = self.0;
-        core as usize
+        let CoreNo(core) = self;
+        usize::from(core)
     }
-}
-
-// The smaller of two counts.
-pub fn smaller(a: usize, b: usize) -> usize
-    ensures { result ≡ min a b }
-{
-    if a < b { a } else { b }
 }
 
 // The place `n` bytes further on, as far as a number tells.
 pub fn further(p: usize, n: usize) -> usize
     ensures { result ≡ further p n }
 {
-    if p <= 18446744073709551615 - n {
-        return p + n;
-    }
-    18446744073709551615
+    p.saturating_add(n)
 }
 
 // 1 ≤ c ≤ d ≤ p ≤ 1,000,000.
 pub fn values_fit(t: Task) -> bool
     ensures { result ≡ values_fit t }
 {
-    if t.cost < 1 {
-        return false;
-    }
-    if t.deadline < t.cost {
-        return false;
-    }
-    if t.period < t.deadline {
-        return false;
-    }
-    t.period <= 1000000
+    1 <= t.cost && t.cost <= t.deadline && t.deadline <= t.period && t.period <= 1000000
 }
 
 // ---- The check of a table.
@@ -119,36 +100,30 @@ pub fn values_fit(t: Task) -> bool
 fn counts(x: usize, most: usize) -> bool
     ensures { result ≡ leb 1 x && leb x most }
 {
-    if x < 1 {
-        return false;
-    }
-    x <= most
+    1 <= x && x <= most
 }
 
 // Core count, number of tasks and values, in this order: 4, 6 and 5.
-pub fn check_tasks(cores: usize, count: usize, tasks: [Task; 64]) -> Answer
+pub fn check_tasks(cores: usize, count: usize, tasks: [Task; 64]) -> Result<(), Refusal>
     ensures { result ≡ checked_tasks cores count (λ i. get_or tasks i no_task) }
 {
     if !counts(cores, 16) {
-        return Answer::Refused(Refusal::CoresGiven(cores));
+        return Err(Refusal::CoresGiven(cores));
     }
     if !counts(count, 64) {
-        return Answer::Refused(Refusal::TasksGiven(count));
+        return Err(Refusal::TasksGiven(count));
     }
-    let mut i = 0;
-    while i < count {
-        if !values_fit(tasks[i]) {
-            return Answer::Refused(Refusal::ValuesOf(TaskNo(i as u8)));
+    for (i, task) in tasks[..count].iter().enumerate() {
+        if !values_fit(*task) {
+            return Err(Refusal::ValuesOf(TaskNo(i as u8)));
         }
-        i += 1;
     }
-    Answer::Accepted
+    Ok(())
 }
 
 // Is this a good table? Any record at all may be given.
-pub fn check_table(table: Table) -> Answer
+pub fn check_table(table: Table) -> Result<(), Refusal>
     ensures { result ≡ checked_table table }
 {
-    let tasks = table.tasks;
-    check_tasks(table.cores, table.count, tasks)
+    check_tasks(table.cores, table.count, table.tasks)
 }

@@ -9,11 +9,14 @@ use native.Mathlib.Numerals.{add-one}
 use native.Mathlib.Omega.{arith}
 use native.Mathlib.Decide.{dec_le}
 use lib.Dec.{ltb}
-use lib.ListN.{length, get_or, set, take, drop, length-append, length-drop, length-set, drop_of_length-le, take-append-drop}
-use lib.Seq.{set_split, set-append_seam, take_all, take-suc, drop-cons, take_at, drop_at, drop-drop, length-take-le}
-use borrow.Author.Tests.{le-leb, lt-leb, le-ltb, ltb-true, ltb-false}
+use lib.ListN.{length, set, take, drop, length-append, length-drop, length-set, drop_of_length-le, take-append-drop}
+use lib.Seq.{set_split, take_all, take_at, drop_at, drop-drop, length-take-le}
+use borrow.Author.Tests.{le-leb, lt-leb, lt-ltb, le-ltb, ltb-true, ltb-false}
 use Rattle.tasks.specs.Below.{row}
 use Rattle.texts.specs.Text.{put_end, put_in, digits, decimal}
+use Rattle.texts.specs.Puts.{Puts}
+use Rattle.texts.specs.declared.Text.{Text}
+use borrow.Rule.Slice.PartMut.{put_mid}
 
 -- ---- whether there is room
 
@@ -29,31 +32,31 @@ has_room {n = n} {m = m} e h = ltb-false n m (sym e ∙ h)
 abbrev pub within : ℕ → List ℕ → List ℕ → List ℕ
 within at lent text = take at lent ++ (text ++ drop (at + length text) lent)
 
-module _ (room at : ℕ) (lent text : List ℕ) where
-  -- with room the text is put, and without it nothing is
-  pub put_fits : at + room ≤ length lent → (put_end room at lent text ≡ at + length text) × (put_in room at lent text ≡ within at lent text)
-  unfolding put_end put_in
-  put_fits h = rw (le-leb (at + room) (length lent) h) (refl, refl)
+-- with room the text is put, and without it nothing is
+pub put_fits : (room at : ℕ) (lent text : List ℕ) → at + room ≤ length lent → (put_end room at lent text ≡ at + length text) × (put_in room at lent text ≡ within at lent text)
+unfolding put_end put_in
+put_fits room at lent text h = rw (le-leb (at + room) (length lent) h) (refl, refl)
 
-  pub put_short : length lent < at + room → (at ≡ put_end room at lent text) × (lent ≡ put_in room at lent text)
-  unfolding put_end put_in
-  put_short h = rw (lt-leb (at + room) (length lent) h) (refl, refl)
+pub put_short : {b : Bool} {room : ℕ} {text : List ℕ} (t : Text) → b ≡ ltb (length t.bytes.now) (t.end + room) → b ≡ true → Puts room text t t
+unfolding put_end put_in
+put_short {room = room} t e h = let q = lt-leb (t.end + room) (length t.bytes.now) (no_room e h) in record { end = rw q; bytes = rw q; lent = refl }
 
 within_size : (at : ℕ) (lent text : List ℕ) → at + length text ≤ length lent → length (within at lent text) ≡ length lent
 within_size at lent text h = length-append (take at lent) _ ∙ omega (arith, length-append text (drop (at + length text) lent), length-take-le at lent (omega arith), length-drop (at + length text) lent)
 
--- a text of at most `most` bytes was put from `at` on into some lent bytes, which then are xs, and it ends at r
-pub record Put (at : ℕ) (lent : List ℕ) (most : ℕ) (text : List ℕ) (r : ℕ) (xs : List ℕ) : Type 0 where
-  pub end : r ≡ at + length text
-  pub bytes : xs ≡ within at lent text
+-- a text of at most `most` bytes was put into t, which then is u
+pub record Put (t : Text) (most : ℕ) (text : List ℕ) (u : Text) : Type 0 where
+  pub end : u.end ≡ t.end + length text
+  pub bytes : u.bytes.now ≡ within t.end t.bytes.now text
   pub few : length text ≤ most
-  pub room : at + most ≤ length lent
-  pub size : length xs ≡ length lent
+  pub room : t.end + most ≤ length t.bytes.now
+  pub size : length u.bytes.now ≡ length t.bytes.now
+  pub lent : u.bytes.ghost_name ≡ t.bytes.ghost_name
 
-pub put_none : (at : ℕ) (lent : List ℕ) → at ≤ length lent → Put at lent 0 [] at lent
-put_none at lent h = record { end = omega arith; bytes = rw (omega_zero) (sym (take-append-drop at lent)); few = omega arith; room = omega arith; size = refl }
+pub put_none : (t : Text) → t.end ≤ length t.bytes.now → Put t 0 [] t
+put_none t h = record { end = omega arith; bytes = rw (omega_zero) (sym (take-append-drop t.end t.bytes.now)); few = omega arith; room = omega arith; size = refl; lent = refl }
   where
-    omega_zero : at + 0 ≡ at
+    omega_zero : t.end + 0 ≡ t.end
     omega_zero = omega arith
 
 -- one more line of a row
@@ -80,72 +83,75 @@ within_twice at lent a b h =
     sums = omega arith
 
 -- the next text, of which the longest has room
-pub put_next : {at : ℕ} {lent a : List ℕ} {m r : ℕ} {xs : List ℕ} → Put at lent m a r xs → (all room : ℕ) (b : List ℕ) → length b ≤ room → {s : ℕ} {ys : List ℕ} → (s ≡ put_end room r xs b) × (ys ≡ put_in room r xs b) → m + room ≤ all → at + all ≤ length lent
-    → Put at lent all (a ++ b) s ys
-put_next {at} {lent} {a} {m} {r} {xs} p all room b small {s} {ys} h fits most =
-    let told = put_fits room r xs b (omega (arith, p.end, p.few, p.size)) in
+pub put_next : {t u v : Text} {a : List ℕ} {m : ℕ} → Put t m a u → (all room : ℕ) (b : List ℕ) → length b ≤ room → Puts room b u v → m + room ≤ all → t.end + all ≤ length t.bytes.now → Put t all (a ++ b) v
+put_next {t} {u} {v} {a} {m} p all room b small h fits most =
+    let told = put_fits room u.end u.bytes.now b (omega (arith, p.end, p.few, p.size)) in
     let long : length (a ++ b) ≡ length a + length b = length-append a b in
-    let there : ys ≡ within at lent (a ++ b) = h.1 ∙ told.1 ∙ ap (λ (n : ℕ). within n xs b) p.end ∙ ap (λ (l : List ℕ). within (at + length a) l b) p.bytes ∙ within_twice at lent a b (omega (arith, p.few)) in
+    let there : v.bytes.now ≡ within t.end t.bytes.now (a ++ b) = h.bytes ∙ told.1 ∙ ap (λ (n : ℕ). within n u.bytes.now b) p.end ∙ ap (λ (l : List ℕ). within (t.end + length a) l b) p.bytes ∙ within_twice t.end t.bytes.now a b (omega (arith, p.few)) in
     record {
-      end = omega (arith, h.0, told.0, p.end);
+      end = omega (arith, h.end, told.0, p.end);
       bytes = there;
       few = omega (arith, p.few);
       room = most;
-      size = ap length there ∙ within_size at lent (a ++ b) (omega (arith, p.few));
+      size = ap length there ∙ within_size t.end t.bytes.now (a ++ b) (omega (arith, p.few));
+      lent = h.lent ∙ p.lent;
     }
 
 -- all of a text was put, and it had room
-pub put_all : {at : ℕ} {lent a : List ℕ} {m r : ℕ} {xs : List ℕ} → Put at lent m a r xs → (text : List ℕ) → a ≡ text → (room : ℕ) → at + room ≤ length lent → (r ≡ put_end room at lent text) × (xs ≡ put_in room at lent text)
-put_all {at} {lent} {a} p text e room h =
-    let told = put_fits room at lent text h in
-    (p.end ∙ ap (λ (l : List ℕ). at + length l) e ∙ sym told.0, p.bytes ∙ ap (within at lent) e ∙ sym told.1)
+pub put_all : {t u : Text} {a : List ℕ} {m : ℕ} → Put t m a u → (text : List ℕ) → a ≡ text → (room : ℕ) → t.end + room ≤ length t.bytes.now → Puts room text t u
+put_all {t} p text e room h =
+    let told = put_fits room t.end t.bytes.now text h in
+    record {
+      end = p.end ∙ ap (λ (l : List ℕ). t.end + length l) e ∙ sym told.0;
+      bytes = p.bytes ∙ ap (within t.end t.bytes.now) e ∙ sym told.1;
+      lent = p.lent;
+    }
 
 -- a text that is the first one
-pub put_first : (at : ℕ) (lent : List ℕ) (room : ℕ) (b : List ℕ) → length b ≤ room → at + room ≤ length lent → {s : ℕ} {ys : List ℕ} → (s ≡ put_end room at lent b) × (ys ≡ put_in room at lent b) → Put at lent room b s ys
-put_first at lent room b small most h = put_next (put_none at lent (omega arith)) room room b small h (omega arith) most
+pub put_first : {t u : Text} (room : ℕ) (b : List ℕ) → length b ≤ room → t.end + room ≤ length t.bytes.now → Puts room b t u → Put t room b u
+put_first {t} room b small most h = put_next (put_none t (omega arith)) room room b small h (omega arith) most
 
 -- two texts, the second of which may be made of many
-pub put_then : {at : ℕ} {lent a : List ℕ} {m r : ℕ} {xs b : List ℕ} {k s : ℕ} {ys : List ℕ} → Put at lent m a r xs → Put r xs k b s ys → (all : ℕ) → m + k ≤ all → at + all ≤ length lent → Put at lent all (a ++ b) s ys
+pub put_then : {t u v : Text} {a b : List ℕ} {m k : ℕ} → Put t m a u → Put u k b v → (all : ℕ) → m + k ≤ all → t.end + all ≤ length t.bytes.now → Put t all (a ++ b) v
 put_then {b = b} {k = k} p q all fits most = put_next p all k b q.few (put_all q b refl k q.room) fits most
 
 -- the same text, which may be said to be longer
-pub put_same : {at : ℕ} {lent a : List ℕ} {m r : ℕ} {xs : List ℕ} → Put at lent m a r xs → (text : List ℕ) → a ≡ text → (all : ℕ) → m ≤ all → at + all ≤ length lent → Put at lent all text r xs
-put_same {at} {lent} p text e all fits most = record {
-  end = p.end ∙ ap (λ (l : List ℕ). at + length l) e;
-  bytes = p.bytes ∙ ap (within at lent) e;
+pub put_same : {t u : Text} {a : List ℕ} {m : ℕ} → Put t m a u → (text : List ℕ) → a ≡ text → (all : ℕ) → m ≤ all → t.end + all ≤ length t.bytes.now → Put t all text u
+put_same {t} p text e all fits most = record {
+  end = p.end ∙ ap (λ (l : List ℕ). t.end + length l) e;
+  bytes = p.bytes ∙ ap (within t.end t.bytes.now) e;
   few = omega (arith, p.few, ap length e);
   room = most;
   size = p.size;
+  lent = p.lent;
 }
 
 -- no longer than it is
-pub put_tight : {at : ℕ} {lent a : List ℕ} {m r : ℕ} {xs : List ℕ} → Put at lent m a r xs → Put at lent (length a) a r xs
-put_tight p = record { end = p.end; bytes = p.bytes; few = omega arith; room = omega (arith, p.few, p.room); size = p.size }
+pub put_tight : {t u : Text} {a : List ℕ} {m : ℕ} → Put t m a u → Put t (length a) a u
+put_tight p = record { end = p.end; bytes = p.bytes; few = omega arith; room = omega (arith, p.few, p.room); size = p.size; lent = p.lent }
 
 -- lines in a row
-pub put_row_none : (at : ℕ) (lent : List ℕ) (k : ℕ) (f : ℕ → List ℕ) → at ≤ length lent → Put at lent (0 * k) (row 0 f) at lent
+pub put_row_none : (t : Text) (k : ℕ) (f : ℕ → List ℕ) → t.end ≤ length t.bytes.now → Put t (0 * k) (row 0 f) t
 unfolding row
-put_row_none at lent k f h = rw (zero-mul k) (put_none at lent h)
+put_row_none t k f h = rw (zero-mul k) (put_none t h)
 
-pub put_row_next : {at : ℕ} {lent : List ℕ} {r : ℕ} {xs : List ℕ} (k : ℕ) (f : ℕ → List ℕ) (i : ℕ) → Put at lent (i * k) (row i f) r xs → length (f i) ≤ k → at + (i + 1) * k ≤ length lent → {s : ℕ} {ys : List ℕ} → (s ≡ put_end k r xs (f i)) × (ys ≡ put_in k r xs (f i))
-    → Put at lent ((i + 1) * k) (row (i + 1) f) s ys
+pub put_row_next : {t u v : Text} (k : ℕ) (f : ℕ → List ℕ) (i : ℕ) → Put t (i * k) (row i f) u → length (f i) ≤ k → t.end + (i + 1) * k ≤ length t.bytes.now → Puts k (f i) u v → Put t ((i + 1) * k) (row (i + 1) f) v
 put_row_next k f i p small most h = put_same (put_next p ((i + 1) * k) k (f i) small h (more_lines i k) most) (row (i + 1) f) (row_next f i) ((i + 1) * k) (omega arith) most
 
 -- what was put in little room is put in more
-pub put_wider : (at : ℕ) (lent text : List ℕ) (little room : ℕ) {r : ℕ} {xs : List ℕ} → (r ≡ put_end little at lent text) × (xs ≡ put_in little at lent text) → little ≤ room → at + room ≤ length lent
-    → (r ≡ put_end room at lent text) × (xs ≡ put_in room at lent text)
-put_wider at lent text little room h l most =
-    let near = put_fits little at lent text (omega arith) in
-    let far = put_fits room at lent text most in
-    (h.0 ∙ near.0 ∙ sym far.0, h.1 ∙ near.1 ∙ sym far.1)
+pub put_wider : {t u : Text} (text : List ℕ) (little room : ℕ) → Puts little text t u → little ≤ room → t.end + room ≤ length t.bytes.now → Puts room text t u
+put_wider {t} text little room h l most =
+    let near = put_fits little t.end t.bytes.now text (omega arith) in
+    let far = put_fits room t.end t.bytes.now text most in
+    record { end = h.end ∙ near.0 ∙ sym far.0; bytes = h.bytes ∙ near.1 ∙ sym far.1; lent = h.lent }
 
 -- an empty text changes nothing
-pub put_nothing : (room at : ℕ) (lent : List ℕ) → (at ≡ put_end room at lent []) × (lent ≡ put_in room at lent [])
-put_nothing room at lent = go (dec_le (at + room) (length lent))
+pub put_nothing : (room : ℕ) (t : Text) → Puts room [] t t
+put_nothing room t = go (dec_le (t.end + room) (length t.bytes.now))
   where
-    go : Dec (at + room ≤ length lent) → (at ≡ put_end room at lent []) × (lent ≡ put_in room at lent [])
-    go (yes h) = put_all (put_none at lent (omega arith)) [] refl room h
-    go (no h) = put_short room at lent [] (omega arith)
+    go : Dec (t.end + room ≤ length t.bytes.now) → Puts room [] t t
+    go (yes h) = put_all (put_none t (omega arith)) [] refl room h
+    go (no h) = put_short t refl (lt-ltb (length t.bytes.now) (t.end + room) (omega arith))
 
 -- a text at the beginning of lent bytes that have room for it: the bytes up to its end are the whole text
 pub put_whole : (room : ℕ) (lent text : List ℕ) → length text ≤ room → room ≤ length lent → take (put_end room 0 lent text) (put_in room 0 lent text) ≡ text
@@ -153,27 +159,12 @@ put_whole room lent text small h =
     let told = put_fits room 0 lent text (omega arith) in
     rw (told.0, told.1, zero-add) (take_at text (drop (length text) lent) (length text) refl)
 
--- ---- words, byte by byte
-
--- the first i words are put; so is one more
-pub words_start : (at : ℕ) (lent words : List ℕ) → at ≤ length lent → lent ≡ within at lent (take 0 words)
-words_start at lent words h = (put_none at lent h).bytes
-
-pub words_turn : (at i : ℕ) (lent words xs : List ℕ) → at + length words ≤ length lent → i < length words → xs ≡ within at lent (take i words) → set xs (at + i) (get_or words i 0) ≡ within at lent (take (i + 1) words)
-words_turn at i lent words xs h l e =
-    let long : length (take i words) ≡ i = length-take-le i words (omega arith) in
-    let full : length (take at lent) ≡ at = length-take-le at lent (omega arith) in
-    let front : length (take at lent ++ take i words) ≡ at + i = length-append (take at lent) (take i words) ∙ omega arith in
-    let rest : drop (at + length (take i words)) lent ≡ get_or lent (at + i) 0 ∷ drop (suc (at + i)) lent = ap (λ (n : ℕ). drop (at + n) lent) long ∙ drop-cons lent (at + i) 0 (omega arith) in
-    let before : xs ≡ (take at lent ++ take i words) ++ (get_or lent (at + i) 0 ∷ drop (suc (at + i)) lent) = e ∙ sym (append_assoc (take at lent) (take i words) _) ∙ ap (λ (l : List ℕ). (take at lent ++ take i words) ++ l) rest in
-    let one : take (i + 1) words ≡ take i words ++ (get_or words i 0 ∷ []) = rw add-one (take-suc words i 0 l) in
-    let next : at + length (take (i + 1) words) ≡ suc (at + i) = omega (arith, length-take-le (i + 1) words (omega arith)) in
-    rw (before, ← front, next, one) (set-append_seam (take at lent ++ take i words) _ _ (get_or words i 0) ∙ ap (λ (n : ℕ). (take at lent ++ take i words) ++ (get_or words i 0 ∷ drop (suc n) lent)) front ∙ simp append_assoc)
-
-pub words_end : (at i : ℕ) (lent words xs : List ℕ) → at + length words ≤ length lent → length words ≤ i → xs ≡ within at lent (take i words) → (at + length words ≡ put_end (length words) at lent words) × (xs ≡ put_in (length words) at lent words)
-words_end at i lent words xs h l e =
+-- words that were copied into a part of the lent bytes
+pub words_put : (at : ℕ) (lent words xs : List ℕ) → at + length words ≤ length lent → xs ≡ words → (at + length words ≡ put_end (length words) at lent words) × (put_mid at (at + length words - at) lent xs ≡ put_in (length words) at lent words)
+words_put at lent words xs h e =
     let told = put_fits (length words) at lent words h in
-    (sym told.0, e ∙ ap (within at lent) (take_all i words l) ∙ sym told.1)
+    let n : at + length words - at ≡ length words = omega arith in
+    (sym told.0, rw (n, e, drop-drop) (sym told.1))
 
 -- ---- a number's digits, found from the last one on
 
@@ -228,21 +219,20 @@ digits_few (suc k) n = go (ltb n 10) (digits_few k (n / 10))
     go false h = simp length-append (omega arith)
 
 -- a number next, and words
-module _ {at : ℕ} {lent a : List ℕ} {m r : ℕ} {xs : List ℕ} (p : Put at lent m a r xs) (all : ℕ) where
-  pub put_number : (n : ℕ) {s : ℕ} {ys : List ℕ} → (s ≡ put_end 20 r xs (decimal n)) × (ys ≡ put_in 20 r xs (decimal n)) → m + 20 ≤ all → at + all ≤ length lent → Put at lent all (a ++ decimal n) s ys
+module _ {t u v : Text} {a : List ℕ} {m : ℕ} (p : Put t m a u) (all : ℕ) where
+  pub put_number : (n : ℕ) → Puts 20 (decimal n) u v → m + 20 ≤ all → t.end + all ≤ length t.bytes.now → Put t all (a ++ decimal n) v
   put_number n h = put_next p all 20 (decimal n) (digits_few 20 n) h
 
-  pub put_words : (ws : List ℕ) {s : ℕ} {ys : List ℕ} → (s ≡ put_end (length ws) r xs ws) × (ys ≡ put_in (length ws) r xs ws) → m + length ws ≤ all → at + all ≤ length lent → Put at lent all (a ++ ws) s ys
+  pub put_words : (ws : List ℕ) → Puts (length ws) ws u v → m + length ws ≤ all → t.end + all ≤ length t.bytes.now → Put t all (a ++ ws) v
   put_words ws h = put_next p all (length ws) ws (omega arith) h
 
 -- the digits that were found, put as words
-pub digits_put : (n at : ℕ) (lent bytes : List ℕ) (start : ℕ) {r : ℕ} {xs : List ℕ} → length bytes ≡ 20 → drop start bytes ≡ decimal n
-    → (r ≡ put_end (length (take (20 - start) (drop start bytes))) at lent (take (20 - start) (drop start bytes))) × (xs ≡ put_in (length (take (20 - start) (drop start bytes))) at lent (take (20 - start) (drop start bytes)))
-    → at + 20 ≤ length lent → (r ≡ put_end 20 at lent (decimal n)) × (xs ≡ put_in 20 at lent (decimal n))
-digits_put n at lent bytes start {r} {xs} full same h room =
-    let whole : take (20 - start) (drop start bytes) ≡ decimal n = take_all (20 - start) (drop start bytes) (omega (arith, length-drop start bytes)) ∙ same in
-    let told : (r ≡ put_end (length (decimal n)) at lent (decimal n)) × (xs ≡ put_in (length (decimal n)) at lent (decimal n)) = rw whole at h in
-    put_wider at lent (decimal n) (length (decimal n)) 20 told (digits_few 20 n) room
+pub digits_put : {t u : Text} (n : ℕ) (bytes : List ℕ) (start k : ℕ) → drop start bytes ≡ decimal n → k ≡ length bytes
+    → Puts (length (take (k - start) (drop start bytes))) (take (k - start) (drop start bytes)) t u → t.end + 20 ≤ length t.bytes.now → Puts 20 (decimal n) t u
+digits_put {t} {u} n bytes start k same full h room =
+    let whole : take (k - start) (drop start bytes) ≡ decimal n = take_all (k - start) (drop start bytes) (omega (arith, length-drop start bytes)) ∙ same in
+    let told : Puts (length (decimal n)) (decimal n) t u = rw whole at h in
+    put_wider (decimal n) (length (decimal n)) 20 told (digits_few 20 n) room
 
 -- n lines of at most k bytes
 pub row_few : (n k : ℕ) (f : ℕ → List ℕ) → ((i : ℕ) → length (f i) ≤ k) → length (row n f) ≤ n * k

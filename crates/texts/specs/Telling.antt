@@ -1,8 +1,6 @@
 -- What a refusal's line says, byte for byte.
-use Rattle.std.specs.Prelude.{List, [], ◌++◌, ℕ}
+use Rattle.std.specs.Prelude.{Result, Ok, Err, List, [], ◌++◌, ℕ}
 use Rattle.tasks.specs.Refusals.{Told, place, task, given, needed, nothing, number, tells}
-use Rattle.tasks.specs.declared.Answer.{Answer}
-use Rattle.tasks.specs.declared.Answer.TheVariants.{Accepted, Refused}
 use Rattle.tasks.specs.declared.Refusal.{Refusal}
 use Rattle.texts.specs.Text.{ascii, decimal}
 
@@ -25,7 +23,7 @@ told_most = 47
 abbrev pub refusal_most : ℕ
 refusal_most = 56
 
--- a refusal's line, or what is said where nothing is refused
-abbrev pub answer_text : Answer → List ℕ → List ℕ
-answer_text (Refused x) said = refusal_text x
-answer_text Accepted said = said
+-- a refusal's line, or what is said of what is accepted
+abbrev pub answer_text : {A : Type 0} → Result A Refusal → (A → List ℕ) → List ℕ
+answer_text (Err x) said = refusal_text x
+answer_text (Ok a) said = said a

@@ -1,44 +1,24 @@
 // Texts that a program prints, made of words and numbers in lent bytes, and the line of a refusal.
-// A text is put in from `at` on, and the answer is where it ends. Where the longest text of its kind has no room, nothing is put and the answer is `at`.
+// A text is put in where the text so far ends, and the text so far then ends after it. Where the longest text of its kind has no room, nothing is put.
+// The lines are put by hand, and not by `write!`: of that a clause tells the bytes only for a `String`, which is heap.
 #![tactic(auto)]
 
-ghost use Rattle.std.specs.Prelude.{◌≡◌, ◌++◌, ◌+◌, ◌≤◌, ltb, length, drop};
-ghost use Rattle.tasks.specs.Refusals.{place as at_place, task as about_task, given as was_given, needed as was_needed, nothing, number as numbered, tells};
-ghost use Rattle.texts.specs.Text.{put_end, put_in, decimal};
+ghost use Rattle.std.specs.Prelude.{◌≡◌, ◌++◌, ◌+◌, ◌≤◌, ltb, length, take, drop};
+ghost use Rattle.tasks.specs.Refusals.{number as numbered, tells};
+ghost use Rattle.texts.specs.Text.{decimal};
+ghost use Rattle.texts.specs.Puts.{Puts};
 ghost use Rattle.texts.specs.Telling.{told_text, told_most, refusal_text, refusal_most};
 
-use tasks::{Place, Refusal, TaskNo};
+use tasks::Refusal;
 
-// Whether so many bytes from a place on go past a length.
-pub fn short(length: usize, at: usize, room: usize) -> bool
-    ensures { result ≡ ltb length (at + room) }
-{
-    if length < at {
-        return true;
-    }
-    if length - at < room {
-        return true;
-    }
-    false
+// Lent bytes, and where the text so far ends in them.
+#[derive(Drop)]
+pub struct Text<'a> {
+    pub bytes: &'a mut [u8],
+    pub end: usize,
 }
 
-// Puts some words.
-pub fn words(out: &mut [u8], at: usize, words: &[u8]) -> usize
-    ensures { (result ≡ put_end (length words.now) at out.old words.now) × (out.new ≡ put_in (length words.now) at out.old words.now) }
-{
-    let n = words.len();
-    if short(out.len(), at, n) {
-        return at;
-    }
-    let mut i = 0;
-    while i < n {
-        out[at + i] = words[i];
-        i += 1;
-    }
-    at + n
-}
-
-// A number's decimal digits, which are the bytes from `start` on.
+// A number's decimal digits, which are the bytes from `start` on: memory is fixed, so they stand at the end of an array.
 #[derive(Clone, Copy)]
 struct Digits {
     bytes: [u8; 20],
@@ -49,127 +29,103 @@ struct Digits {
 fn digits_of(n: u64) -> Digits
     ensures { (length result.bytes ≡ 20) × (result.start ≤ 20) × (drop result.start result.bytes ≡ decimal n) }
 {
-    let mut bytes = [48u8; 20];
+    let mut bytes = [b'0'; 20];
     let mut start: usize = 19;
     let mut rest = n;
-    while 0 < start {
-        if rest < 10 {
-            break;
-        }
-        bytes[start] = 48 + (rest % 10) as u8;
+    while 0 < start && 10 <= rest {
+        bytes[start] = b'0' + (rest % 10) as u8;
         rest /= 10;
         start -= 1;
     }
-    bytes[start] = 48 + (rest % 10) as u8;
+    bytes[start] = b'0' + (rest % 10) as u8;
     Digits { bytes, start }
 }
 
-// Puts a number in decimal: at most 20 digits.
-pub fn number(out: &mut [u8], at: usize, n: u64) -> usize
-    ensures { (result ≡ put_end 20 at out.old (decimal n)) × (out.new ≡ put_in 20 at out.old (decimal n)) }
-{
-    if short(out.len(), at, 20) {
-        return at;
+impl Text<'_> {
+    // Whether so many bytes from the end on go past the lent bytes.
+    pub fn is_short(&self, room: usize) -> bool
+        ensures { result ≡ ltb (length self.now.bytes.now) (self.now.end + room) }
+    {
+        self.bytes.len() < self.end || self.bytes.len() - self.end < room
     }
-    let digits = digits_of(n);
-    let bytes = digits.bytes;
-    let start = digits.start;
-    words(out, at, &bytes[start..])
-}
 
-// ---- The line of a refusal.
-
-// A refusal's number and the place that it tells.
-fn of_place(out: &mut [u8], at: usize, which: u64, place: Place) -> usize
-    ensures { (result ≡ put_end told_most at out.old (decimal which ++ told_text (at_place place.0))) × (out.new ≡ put_in told_most at out.old (decimal which ++ told_text (at_place place.0))) }
-{
-    if short(out.len(), at, 47) {
-        return at;
+    // The text so far.
+    pub fn said(&self) -> &[u8]
+        ensures { result.now ≡ take self.now.end self.now.bytes.now }
+    {
+        &self.bytes[..self.end.min(self.bytes.len())]
     }
-    let end = number(out, at, which);
-    let told = words(out, end, b" at ");
-    number(out, told, place.0 as u64)
-}
 
-// A refusal's number and the task that it tells.
-fn of_task(out: &mut [u8], at: usize, which: u64, task: TaskNo) -> usize
-    ensures { (result ≡ put_end told_most at out.old (decimal which ++ told_text (about_task task.0))) × (out.new ≡ put_in told_most at out.old (decimal which ++ told_text (about_task task.0))) }
-{
-    if short(out.len(), at, 47) {
-        return at;
+    // Puts some words.
+    pub fn words(&mut self, words: &[u8])
+        ensures { Puts (length words.now) words.now self.old self.new }
+    {
+        if self.is_short(words.len()) {
+            return;
+        }
+        let end = self.end + words.len();
+        self.bytes[self.end..end].copy_from_slice(words);
+        self.end = end;
     }
-    let end = number(out, at, which);
-    let told = words(out, end, b" task ");
-    number(out, told, task.0 as u64)
-}
 
-// A refusal's number and the value given.
-fn of_given(out: &mut [u8], at: usize, which: u64, given: usize) -> usize
-    ensures { (result ≡ put_end told_most at out.old (decimal which ++ told_text (was_given given))) × (out.new ≡ put_in told_most at out.old (decimal which ++ told_text (was_given given))) }
-{
-    if short(out.len(), at, 47) {
-        return at;
+    // Puts a number in decimal: at most 20 digits.
+    pub fn number(&mut self, n: u64)
+        ensures { Puts 20 (decimal n) self.old self.new }
+    {
+        if self.is_short(20) {
+            return;
+        }
+        let digits = digits_of(n);
+        self.words(&digits.bytes[digits.start..]);
     }
-    let end = number(out, at, which);
-    let told = words(out, end, b" given ");
-    number(out, told, given as u64)
-}
 
-// A refusal's number and the length needed.
-fn of_needed(out: &mut [u8], at: usize, which: u64, length: usize) -> usize
-    ensures { (result ≡ put_end told_most at out.old (decimal which ++ told_text (was_needed length))) × (out.new ≡ put_in told_most at out.old (decimal which ++ told_text (was_needed length))) }
-{
-    if short(out.len(), at, 47) {
-        return at;
+    // Puts a refusal's line.
+    pub fn refusal(&mut self, refusal: Refusal)
+        ensures { Puts refusal_most (refusal_text refusal) self.old self.new }
+    {
+        if self.is_short(56) {
+            return;
+        }
+        self.words(b"refused ");
+        self.told(refusal);
+        self.words(b"\n");
     }
-    let end = number(out, at, which);
-    let told = words(out, end, b" needs ");
-    number(out, told, length as u64)
-}
 
-// A refusal's number where it tells nothing.
-fn of_nothing(out: &mut [u8], at: usize, which: u64) -> usize
-    ensures { (result ≡ put_end told_most at out.old (decimal which ++ told_text nothing)) × (out.new ≡ put_in told_most at out.old (decimal which ++ told_text nothing)) }
-{
-    if short(out.len(), at, 47) {
-        return at;
+    // A refusal's number in document 01 and what it tells.
+    #[tactic(auto, unfolding(crate::specs::Telling::told_text, crate::specs::Text::ascii))]
+    fn told(&mut self, refusal: Refusal)
+        ensures { Puts told_most (decimal (numbered refusal) ++ told_text (tells refusal)) self.old self.new }
+    {
+        if self.is_short(47) {
+            return;
+        }
+        match refusal {
+            Refusal::CutShort(p) => self.telling(1, b" at ", p.0 as u64),
+            Refusal::WrongTag(p) => self.telling(2, b" at ", p.0 as u64),
+            Refusal::WrongLength(p) => self.telling(3, b" at ", p.0 as u64),
+            Refusal::CoresAt(p) => self.telling(4, b" at ", p.0 as u64),
+            Refusal::CoresGiven(n) => self.telling(4, b" given ", n as u64),
+            Refusal::ValuesAt(p) => self.telling(5, b" at ", p.0 as u64),
+            Refusal::ValuesOf(i) => self.telling(5, b" task ", i.0 as u64),
+            Refusal::TasksAt(p) => self.telling(6, b" at ", p.0 as u64),
+            Refusal::TasksGiven(n) => self.telling(6, b" given ", n as u64),
+            Refusal::NotPlaced(i) => self.telling(7, b" task ", i.0 as u64),
+            Refusal::NoPlanShape => self.number(8),
+            Refusal::NotWellMade => self.number(9),
+            Refusal::NotRun(i) => self.telling(10, b" task ", i.0 as u64),
+            Refusal::TooSoon(i) => self.telling(11, b" task ", i.0 as u64),
+            Refusal::StillActive(i) => self.telling(12, b" task ", i.0 as u64),
+            Refusal::BufferShort(n) => self.telling(13, b" needs ", n as u64),
+        }
     }
-    let end = number(out, at, which);
-    end
-}
 
-// A refusal's number in document 01 and what it tells.
-fn told(out: &mut [u8], at: usize, refusal: Refusal) -> usize
-    ensures { (result ≡ put_end told_most at out.old (decimal (numbered refusal) ++ told_text (tells refusal))) × (out.new ≡ put_in told_most at out.old (decimal (numbered refusal) ++ told_text (tells refusal))) }
-{
-    match refusal {
-        Refusal::CutShort(p) => of_place(out, at, 1, p),
-        Refusal::WrongTag(p) => of_place(out, at, 2, p),
-        Refusal::WrongLength(p) => of_place(out, at, 3, p),
-        Refusal::CoresAt(p) => of_place(out, at, 4, p),
-        Refusal::CoresGiven(n) => of_given(out, at, 4, n),
-        Refusal::ValuesAt(p) => of_place(out, at, 5, p),
-        Refusal::ValuesOf(i) => of_task(out, at, 5, i),
-        Refusal::TasksAt(p) => of_place(out, at, 6, p),
-        Refusal::TasksGiven(n) => of_given(out, at, 6, n),
-        Refusal::NotPlaced(i) => of_task(out, at, 7, i),
-        Refusal::NoPlanShape => of_nothing(out, at, 8),
-        Refusal::NotWellMade => of_nothing(out, at, 9),
-        Refusal::NotRun(i) => of_task(out, at, 10, i),
-        Refusal::TooSoon(i) => of_task(out, at, 11, i),
-        Refusal::StillActive(i) => of_task(out, at, 12, i),
-        Refusal::BufferShort(n) => of_needed(out, at, 13, n),
+    // A refusal's number, and a number after some words.
+    fn telling(&mut self, which: u64, words: &[u8], n: u64)
+        requires { (length words.now ≤ 7) × (self.old.end + told_most ≤ length self.old.bytes.now) }
+        ensures { Puts told_most (decimal which ++ (words.now ++ decimal n)) self.old self.new }
+    {
+        self.number(which);
+        self.words(words);
+        self.number(n);
     }
-}
-
-// Puts a refusal's line.
-pub fn refusal(out: &mut [u8], at: usize, refusal: Refusal) -> usize
-    ensures { (result ≡ put_end refusal_most at out.old (refusal_text refusal)) × (out.new ≡ put_in refusal_most at out.old (refusal_text refusal)) }
-{
-    if short(out.len(), at, 56) {
-        return at;
-    }
-    let begun = words(out, at, b"refused ");
-    let end = told(out, begun, refusal);
-    words(out, end, b"\n")
 }

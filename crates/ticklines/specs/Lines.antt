@@ -2,9 +2,8 @@
 use Rattle.std.specs.Prelude.{List, [], ◌++◌, ℕ, zero, suc, min, get_or}
 use Rattle.tasks.specs.Below.{row}
 use Rattle.jobs.specs.Jobs.{no_run}
-use Rattle.jobs.specs.declared.CoreRun.{CoreRun}
-use Rattle.jobs.specs.declared.Runner.{Runner}
-use Rattle.jobs.specs.declared.Runner.TheVariants.{Idle, Runs}
+use Rattle.jobs.specs.Jobs.{Runner}
+use Rattle.jobs.specs.Jobs.{Idle, Runs}
 use Rattle.dispatch.specs.declared.State.{State}
 use Rattle.dispatch.specs.declared.Ticked.{Ticked}
 use Rattle.board.specs.Ran.{ran_of}
@@ -23,8 +22,8 @@ gap_text zero = []
 gap_text (suc x) = ascii " "
 
 -- the task on each core, core 0 first, as `0 -`
-unfoldable pub runs_text : ℕ → List CoreRun → List ℕ
-runs_text m runs = row (min m 16) (λ x. gap_text x ++ runner_text (get_or runs x no_run).runner) ++ ascii "\n"
+unfoldable pub runs_text : ℕ → List Runner → List ℕ
+runs_text m runs = row (min m 16) (λ x. gap_text x ++ runner_text (get_or runs x no_run)) ++ ascii "\n"
 
 -- the most bytes that a tick's line can have: 16 cores of at most 21, and the line's end
 abbrev pub ran_most : ℕ
@@ -32,7 +31,7 @@ ran_most = 337
 
 -- what a tick shows: the task on each core, or its refusal
 abbrev pub ran_text : ℕ → Ran → List ℕ
-ran_text m r = answer_text r.answer (runs_text m r.runs)
+ran_text m r = answer_text r.answer (λ _. runs_text m r.runs)
 
 abbrev pub ticked_text : ℕ → Ticked → List ℕ
 ticked_text m t = ran_text m (ran_of t)

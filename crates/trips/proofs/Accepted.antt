@@ -11,6 +11,7 @@ use lib.Dec.{eqb}
 use lib.ListN.{length, get_or, set, take, replicate, length-append, length-set}
 use lib.Seq.{length-take-le, take-suc-set, get_or-set_same, get_or-set_other}
 use borrow.Author.Tests.{eq-eqb}
+use Rattle.std.proofs.lemmas.List.{nil_from_length}
 use Rattle.tasks.specs.Below.{row}
 use Rattle.tasks.proofs.Below.{row_same}
 use Rattle.tasks.proofs.Tabulate.{replicate_at}
@@ -29,7 +30,6 @@ use Rattle.files.specs.declared.Default.{Default}
 use Rattle.files.specs.declared.Field.{Field}
 use Rattle.files.specs.declared.Reader.{Reader}
 use Rattle.files.proofs.Fields.{reader, length_most, next_other, cores_added, task_added, read_refused, hold_is, step_good, settled_bad, good_room}
-use Rattle.files.proofs.Filled.{no_length}
 use Rattle.files.proofs.Found.{Found, good_found, tag_cases}
 use Rattle.trips.proofs.Taken.{piece_room, piece_kind, waits_short, core_text, task_text, piece_text_lem}
 
@@ -95,8 +95,7 @@ unfolding row
 row_set F xs n x d h = rw (add-one, row, row_same n (λ i. F (get_or (set xs n x) i d)) (λ i. F (get_or xs i d)) (λ i l. ap F (get_or-set_other xs n i x d (λ e. omega arith))), get_or-set_same xs n x d h)
 
 nil_right : (xs ys : List ℕ) → xs ++ ys ≡ [] → ys ≡ []
-nil_right [] ys h = h
-nil_right (x ∷ xs) ys h = let z : ◌≡◌ {A = ℕ} 0 1 = cc in absurd (omega arith)
+nil_right xs ys h = nil_from_length ys (omega (arith, ap length h, length-append xs ys))
 
 told_cores : (named : Bool) (p : Plan) (m : ℕ) → told named p ≡ [] → told true (with_cores p m) ≡ core_field m
 unfolding told
@@ -129,7 +128,7 @@ module _ (d : Default) (o : Bool) (s : List ℕ) (g : Field) (p : Plan) (h : Hel
           let c : Content d o h.named s g p = h.good m in
           let four : g.count ≡ 4 = e ∙ ap (λ (n : ℕ). 3 + length_for n) t in
           let field : take g.count g.bytes ≡ core_field (get_or g.bytes 3 0) = ap (λ (k : ℕ). take k g.bytes) four ∙ core_text g h.size h.small t found.size in
-          let empty : told h.named p ≡ [] = no_length _ (omega (arith, h.whole, h.size, ap length c.text, length-append (told h.named p) (take g.count g.bytes), length-take-le g.count g.bytes (omega (arith, h.size)))) in
+          let empty : told h.named p ≡ [] = nil_from_length _ (omega (arith, h.whole, h.size, ap length c.text, length-append (told h.named p) (take g.count g.bytes), length-take-le g.count g.bytes (omega (arith, h.size)))) in
           record {
             text = c.text ∙ rw (empty, field) (sym (append-nil _ ∙ told_cores h.named p (get_or g.bytes 3 0) empty));
             default = λ q. clash refl q;

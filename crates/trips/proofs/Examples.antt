@@ -3,16 +3,17 @@ use mathlib.Core.Path.{◌≡◌, refl}
 use mathlib.Core.List.{List, [], ◌∷◌, ◌++◌}
 use Prim.Native.Nat.{ℕ}
 use lib.ListN.{replicate}
+use Rattle.std.specs.Prelude.{Ok, Err}
 use Rattle.tasks.specs.Below.{all, any, padded, row, sum, tabulate}
 use Rattle.tasks.specs.Tables.{no_task, checked_tasks}
-use Rattle.tasks.specs.declared.Answer.TheVariants.{Accepted, Refused}
+use Rattle.tasks.specs.Answers.{Accepted}
 use Rattle.tasks.specs.declared.Refusal.TheVariants.{CutShort, WrongTag, WrongLength, CoresAt, ValuesAt, TasksAt, NoPlanShape}
 use Rattle.tasks.specs.declared.Table.{Table}
 use Rattle.plans.specs.Pieces.{costs}
 use Rattle.plans.specs.Shape.{follows, in_order, is_last, piece_fits, shape, checked_plan}
 use Rattle.writing.specs.Fields.{table_bytes, tasks_bytes, core_field, task_field}
 use Rattle.tasks.specs.Places.{place_at, further}
-use Rattle.files.specs.Grammar.{refusal, values_fault}
+use Rattle.files.specs.Grammar.{answer_of, refusal, values_fault}
 use Rattle.files.specs.Fields.{read, step, verdict, hold, tag_fits, piece_taken, next_field, added}
 use Rattle.files.specs.Reading.{ended, table_ended, table_closed, plan_ended, plan_closed}
 use Rattle.files.specs.Files.{table_read, plan_read}
@@ -34,19 +35,19 @@ piece k = 3 ∷ 0 ∷ 7 ∷ 0 ∷ 0 ∷ k ∷ 0 ∷ 0 ∷ 0 ∷ 1 ∷ []
 
 pub record SmallFiles : Type 0 where
   pub written : table_bytes table ≡ example
-  pub read_back : table_read Eight example ≡ record { answer = Accepted; table = table }
-  pub no_task_lem : (table_read Eight []).answer ≡ Refused (TasksAt (place_at 0))
-  pub short_tail : (table_read Eight (example ++ (9 ∷ 9 ∷ []))).answer ≡ Refused (CutShort (place_at 19))
-  pub second_count : (table_read Eight (example ++ (1 ∷ 0 ∷ 1 ∷ []))).answer ≡ Refused (WrongTag (place_at 19))
-  pub wrong_length : (table_read Eight (2 ∷ 0 ∷ 13 ∷ [])).answer ≡ Refused (WrongLength (place_at 0))
-  pub many_cores : (table_read Eight (1 ∷ 0 ∷ 1 ∷ 17 ∷ 7 ∷ [])).answer ≡ Refused (CoresAt (place_at 0))
-  pub most_tasks : (table_read Eight (tasks 64 1000000)).answer ≡ Accepted
-  pub many_tasks : (table_read Eight (tasks 65 1000000)).answer ≡ Refused (TasksAt (place_at 960))
-  pub table_piece : (table_read Eight (example ++ piece 0)).answer ≡ Refused (WrongTag (place_at 19))
-  pub only_piece : (plan_read Eight (piece 0)).answer ≡ Refused (TasksAt (place_at 0))
-  pub late_task : (plan_read Eight (tasks 1 9 ++ (piece 0 ++ tasks 1 9))).answer ≡ Refused (WrongTag (place_at 25))
-  pub bad_kind : (plan_read Eight (tasks 1 9 ++ piece 2)).answer ≡ Refused NoPlanShape
-  pub long_period : (table_read Eight (tasks 1 1000001)).answer ≡ Refused (ValuesAt (place_at 0))
+  pub read_back : table_read Eight example ≡ Ok table
+  pub no_task_lem : table_read Eight [] ≡ Err (TasksAt (place_at 0))
+  pub short_tail : table_read Eight (example ++ (9 ∷ 9 ∷ [])) ≡ Err (CutShort (place_at 19))
+  pub second_count : table_read Eight (example ++ (1 ∷ 0 ∷ 1 ∷ [])) ≡ Err (WrongTag (place_at 19))
+  pub wrong_length : table_read Eight (2 ∷ 0 ∷ 13 ∷ []) ≡ Err (WrongLength (place_at 0))
+  pub many_cores : table_read Eight (1 ∷ 0 ∷ 1 ∷ 17 ∷ 7 ∷ []) ≡ Err (CoresAt (place_at 0))
+  pub most_tasks : answer_of (table_read Eight (tasks 64 1000000)) ≡ Accepted
+  pub many_tasks : table_read Eight (tasks 65 1000000) ≡ Err (TasksAt (place_at 960))
+  pub table_piece : table_read Eight (example ++ piece 0) ≡ Err (WrongTag (place_at 19))
+  pub only_piece : plan_read Eight (piece 0) ≡ Err (TasksAt (place_at 0))
+  pub late_task : plan_read Eight (tasks 1 9 ++ (piece 0 ++ tasks 1 9)) ≡ Err (WrongTag (place_at 25))
+  pub bad_kind : plan_read Eight (tasks 1 9 ++ piece 2) ≡ Err NoPlanShape
+  pub long_period : table_read Eight (tasks 1 1000001) ≡ Err (ValuesAt (place_at 0))
 
 pub small_files : SmallFiles
 unfolding table_bytes tasks_bytes core_field task_field row table_read table_closed table_ended checked_tasks any padded tabulate plan_read plan_closed plan_ended read step verdict hold tag_fits values_fault piece_taken next_field added further ended refusal
@@ -59,11 +60,11 @@ abbrev fifth : List ℕ
 fifth = tasks 1 9 ++ (3 ∷ 0 ∷ 7 ∷ 0 ∷ 4 ∷ 0 ∷ 0 ∷ 0 ∷ 0 ∷ 1 ∷ [])
 
 pub record Unnamed : Type 0 where
-  pub four_meant : (table_read Four (tasks 1 9)).table.cores ≡ 4
-  pub eight_meant : (table_read Eight (tasks 1 9)).table.cores ≡ 8
-  pub not_of_four : (plan_read Four fifth).answer ≡ Refused NoPlanShape
-  pub of_eight : (plan_read Eight fifth).answer ≡ Accepted
+  pub four_meant : table_read Four (tasks 1 9) ≡ Ok (record { cores = 4; count = 1; tasks = record { cost = 1; deadline = 1; period = 9 } ∷ replicate 63 no_task })
+  pub eight_meant : table_read Eight (tasks 1 9) ≡ Ok (record { cores = 8; count = 1; tasks = record { cost = 1; deadline = 1; period = 9 } ∷ replicate 63 no_task })
+  pub not_of_four : plan_read Four fifth ≡ Err NoPlanShape
+  pub of_eight : answer_of (plan_read Eight fifth) ≡ Accepted
 
 pub unnamed : Unnamed
-unfolding task_field row table_read table_closed table_ended checked_tasks any all sum costs follows in_order is_last piece_fits shape checked_plan plan_read plan_closed plan_ended read step verdict hold tag_fits values_fault piece_taken next_field added further ended refusal
+unfolding task_field row table_read table_closed table_ended checked_tasks padded tabulate any all sum costs follows in_order is_last piece_fits shape checked_plan plan_read plan_closed plan_ended read step verdict hold tag_fits values_fault piece_taken next_field added further ended refusal
 unnamed = record { four_meant = refl; eight_meant = refl; not_of_four = refl; of_eight = refl }

@@ -9,10 +9,11 @@ use lib.Arith.{le-zero}
 use lib.Dec.{ltb, eqb}
 use lib.ListN.{length, get_or, take}
 use borrow.Author.Tests.{ltb-false, eqb-false, eq-eqb, ne_eqb}
+use Rattle.std.specs.Prelude.{Ok}
 use Rattle.tasks.specs.Below.{row}
 use Rattle.tasks.proofs.Tabulate.{replicate_at}
 use Rattle.tasks.specs.Tables.{no_task, checked_table}
-use Rattle.tasks.specs.declared.Answer.TheVariants.{Accepted, Refused}
+use Rattle.tasks.specs.Answers.{Accepted, Refused}
 use Rattle.tasks.specs.declared.Table.{Table}
 use Rattle.tasks.proofs.Answers.{accepted_not}
 use Rattle.plans.specs.Pieces.{no_piece, task_of}
@@ -20,15 +21,14 @@ use Rattle.plans.specs.Shape.{checked_plan}
 use Rattle.plans.specs.declared.Plan.{Plan}
 use Rattle.writing.specs.Fields.{core_field, task_field, tasks_bytes, table_bytes, plan_bytes}
 use Rattle.files.specs.Fields.{field_at, refused_field, read}
-use Rattle.files.specs.Grammar.{default_cores, empty_plan, refusal}
-use Rattle.files.specs.Reading.{begun, moved_to, ended, fields_answer, ended_after, table_ended, plan_ended, clean_plan, table_closed, plan_closed}
+use Rattle.files.specs.Grammar.{default_cores, empty_plan, refusal, table_of}
+use Rattle.files.specs.Reading.{begun, moved_to, ended, fields_answer, ended_after, table_ended, plan_ended, clean_plan}
 use Rattle.files.specs.Files.{table_read, plan_read}
 use Rattle.files.specs.declared.Default.{Default}
 use Rattle.files.specs.declared.Field.{Field}
 use Rattle.files.proofs.Clean.{clean_plan_is}
-use Rattle.files.proofs.HandMade.{table_passed, plan_passed}
+use Rattle.files.proofs.HandMade.{table_passed, plan_passed, table_out, plan_out}
 use Rattle.files.proofs.FirstBad.{positive}
-use Rattle.files.proofs.FileAnswers.{table_has, plan_has}
 use Rattle.trips.proofs.Accepted.{told, Content, Held, read_held, zero_byte}
 
 -- a lent slice: each byte is below 256, and the length fits a machine word
@@ -113,9 +113,6 @@ plan_told : (p : Plan) → plan_bytes p ≡ told true p
 unfolding plan_bytes tasks_bytes told
 plan_told p = simp append_assoc
 
-abbrev table_of : Plan → Table
-table_of p = record { cores = p.cores; count = p.count; tasks = p.tasks }
-
 table_told : (p : Plan) → p.placed ≡ 0 → table_bytes (table_of p) ≡ told true p
 unfolding table_bytes tasks_bytes told row
 table_told p e = rw e (rw append-nil)
@@ -149,11 +146,15 @@ module _ (d : Default) (o : Bool) (s : List ℕ) (lent : Slice s) (e : Ended (re
     again = told_again d s held.named (read (begun d o) s).plan e.some text content.default
 
 -- every accepted table file that names its core count is written again byte for byte, any other with the default's count before it
-module _ (d : Default) (s : List ℕ) (lent : Slice s) (accepted : (table_read d s).answer ≡ Accepted) where
+module _ (d : Default) (s : List ℕ) (lent : Slice s) (t : Table) (accepted : table_read d s ≡ Ok t) where
+  -- its end was accepted, and what was read is handed out, cleaned
+  table_ends : (table_ended (read (begun d false) s).field (read (begun d false) s).plan ≡ Accepted) × (table_of (clean_plan (read (begun d false) s).plan) ≡ t)
+  unfolding table_read
+  table_ends = table_out (read (begun d false) s) t accepted
+
   -- its end was accepted
   table_ended_lem : table_ended (read (begun d false) s).field (read (begun d false) s).plan ≡ Accepted
-  unfolding table_read table_closed
-  table_ended_lem = sym (table_has _ (clean_plan (read (begun d false) s).plan)) ∙ accepted
+  table_ended_lem = table_ends.0
 
   -- so its fields are good
   table_fields : Ended (read (begun d false) s).field (read (begun d false) s).plan.count
@@ -164,24 +165,27 @@ module _ (d : Default) (s : List ℕ) (lent : Slice s) (accepted : (table_read d
   table_plain = (held d false s lent table_fields).plain refl
 
   -- what was read is handed out
-  table_is : (table_read d s).table ≡ table_of (read (begun d false) s).plan
-  unfolding table_read table_closed
-  table_is = rw table_ended_lem (ap table_of (cleaned d false s lent table_fields table_plain))
+  table_is : t ≡ table_of (read (begun d false) s).plan
+  table_is = sym table_ends.1 ∙ ap table_of (cleaned d false s lent table_fields table_plain)
 
   -- it is written again
-  pub table_written_again : table_bytes (table_read d s).table ≡ cond (eqb (get_or s 0 0) 1) s (core_field (default_cores d) ++ s)
+  pub table_written_again : table_bytes t ≡ cond (eqb (get_or s 0 0) 1) s (core_field (default_cores d) ++ s)
   table_written_again = ap table_bytes table_is ∙ table_told _ ((content d false s lent table_fields table_plain).alone refl) ∙ again d false s lent table_fields table_plain
 
   -- and its record is a good table
-  pub table_is_good : checked_table (table_read d s).table ≡ Accepted
+  pub table_is_good : checked_table t ≡ Accepted
   table_is_good = rw table_is (table_passed _ _ table_ended_lem).1
 
 -- every accepted plan file that names its core count is written again byte for byte, any other with the default's count before it
-module _ (d : Default) (s : List ℕ) (lent : Slice s) (accepted : (plan_read d s).answer ≡ Accepted) where
+module _ (d : Default) (s : List ℕ) (lent : Slice s) (p : Plan) (accepted : plan_read d s ≡ Ok p) where
+  -- its end was accepted, and what was read is handed out, cleaned
+  plan_ends : (plan_ended (read (begun d true) s).field (read (begun d true) s).plan ≡ Accepted) × (clean_plan (read (begun d true) s).plan ≡ p)
+  unfolding plan_read
+  plan_ends = plan_out (read (begun d true) s) p accepted
+
   -- its end was accepted
   plan_ended_lem : plan_ended (read (begun d true) s).field (read (begun d true) s).plan ≡ Accepted
-  unfolding plan_read plan_closed
-  plan_ended_lem = sym (plan_has _ (clean_plan (read (begun d true) s).plan)) ∙ accepted
+  plan_ended_lem = plan_ends.0
 
   -- so its fields are good
   plan_fields : Ended (read (begun d true) s).field (read (begun d true) s).plan.count
@@ -192,14 +196,13 @@ module _ (d : Default) (s : List ℕ) (lent : Slice s) (accepted : (plan_read d 
   plan_plain = (plan_passed _ _ plan_ended_lem).1.0
 
   -- what was read is handed out
-  plan_is : (plan_read d s).plan ≡ (read (begun d true) s).plan
-  unfolding plan_read plan_closed
-  plan_is = rw plan_ended_lem (cleaned d true s lent plan_fields plan_plain)
+  plan_is : p ≡ (read (begun d true) s).plan
+  plan_is = sym plan_ends.1 ∙ cleaned d true s lent plan_fields plan_plain
 
   -- it is written again
-  pub plan_written_again : plan_bytes (plan_read d s).plan ≡ cond (eqb (get_or s 0 0) 1) s (core_field (default_cores d) ++ s)
+  pub plan_written_again : plan_bytes p ≡ cond (eqb (get_or s 0 0) 1) s (core_field (default_cores d) ++ s)
   plan_written_again = ap plan_bytes plan_is ∙ plan_told _ ∙ again d true s lent plan_fields plan_plain
 
   -- and its record is a good plan
-  pub plan_is_good : checked_plan (plan_read d s).plan ≡ Accepted
+  pub plan_is_good : checked_plan p ≡ Accepted
   plan_is_good = rw plan_is (plan_passed _ _ plan_ended_lem).1.1

@@ -7,11 +7,12 @@ use native.Mathlib.Numerals.{add-one}
 use native.Mathlib.Omega.{arith}
 use lib.ListN.{length}
 use borrow.Author.Tests.{leb-true, ne_eqb}
+use Rattle.std.specs.Prelude.{Ok}
 use Rattle.tasks.proofs.Padded.{padded_in, padded_is, padded_more}
 use Rattle.tasks.proofs.Tables.{GoodTable, accepted_good, good_accepted, values_fit_lem, counts_fit}
 use Rattle.tasks.specs.Below.{padded, tabulate, row}
 use Rattle.tasks.specs.Tables.{no_task, cores_fit, values_fit, checked_tasks, checked_table, SameTable, CleanTable, task_of as task_of_table}
-use Rattle.tasks.specs.declared.Answer.TheVariants.{Accepted}
+use Rattle.tasks.specs.Answers.{Accepted}
 use Rattle.tasks.specs.declared.Task.{Task}
 use Rattle.tasks.specs.declared.Table.{Table}
 use Rattle.plans.specs.Pieces.{no_piece, task_of, piece_of}
@@ -77,14 +78,14 @@ abbrev pub clean_table : Table → Table
 clean_table t = record { cores = t.cores; count = t.count; tasks = padded 64 t.count no_task (task_of_table t) }
 
 -- a table's reader behind a good table hands it out
-table_closes : (q m n : ℕ) (ts : ℕ → Task) (pc : ℕ → Piece) → GoodTable m n ts → table_closed (reader (field_at false q q false) (plan_of m n ts 0 pc)) ≡ record { answer = Accepted; table = record { cores = m; count = n; tasks = padded 64 n no_task ts } }
+table_closes : (q m n : ℕ) (ts : ℕ → Task) (pc : ℕ → Piece) → GoodTable m n ts → table_closed (reader (field_at false q q false) (plan_of m n ts 0 pc)) ≡ Ok (record { cores = m; count = n; tasks = padded 64 n no_task ts })
 unfolding table_closed table_ended ended
 table_closes q m n ts pc g =
     let checked : checked_tasks m n (task_of (plan_of m n ts 0 pc)) ≡ Accepted = good_accepted m n _ (tasks_same m n ts _ (λ i l. sym (padded_in 64 no_task n ts i l (omega (arith, g.tasks.1)))) g) in
     rw (ne_eqb n 0 (λ e. omega (arith, g.tasks.0)), checked, padded_again 64 no_task n ts)
 
 -- what is written of a good table reads back to the same table, whatever the default
-pub table_reads_back : (d : Default) (t : Table) → checked_table t ≡ Accepted → table_read d (table_bytes t) ≡ record { answer = Accepted; table = clean_table t }
+pub table_reads_back : (d : Default) (t : Table) → checked_table t ≡ Accepted → table_read d (table_bytes t) ≡ Ok (clean_table t)
 unfolding table_read table_bytes
 table_reads_back d t h =
     let g : GoodTable t.cores t.count (task_of_table t) = accepted_good _ _ _ h in
@@ -112,7 +113,7 @@ module _ (m n : ℕ) (ts : ℕ → Task) (pc : ℕ → Piece) where
   read_pieces h (suc k) l v = read_row (behind 0) k (λ j. piece_field (pc j)) ∙ ap (λ (r : Reader). read r (piece_field (pc k))) (read_pieces h k (omega arith) (λ j b. v j (omega arith))) ∙ piece_more k h l (v k (omega arith))
 
 -- a plan's reader behind a good plan hands it out clean
-plan_closes : (f : Field) (p : Plan) → f.bad ≡ 0 → f.count ≡ 0 → f.misshapen ≡ false → 1 ≤ p.count → checked_plan p ≡ Accepted → plan_closed (reader f p) ≡ record { answer = Accepted; plan = clean_plan p }
+plan_closes : (f : Field) (p : Plan) → f.bad ≡ 0 → f.count ≡ 0 → f.misshapen ≡ false → 1 ≤ p.count → checked_plan p ≡ Accepted → plan_closed (reader f p) ≡ Ok (clean_plan p)
 unfolding plan_closed plan_ended ended
 plan_closes f p a b c d h = rw (a, b, ne_eqb p.count 0 (λ e. omega arith), c, h)
 
@@ -125,7 +126,7 @@ clean_good p g =
     record { table = tasks_same _ _ _ _ ts g.table; shaped = sym (shape_same _ _ _ pc _ _ _ _ ts) ∙ g.shaped }
 
 -- what is written of a good plan reads back to the same plan, whatever the default
-pub plan_reads_back : (d : Default) (p : Plan) → checked_plan p ≡ Accepted → plan_read d (plan_bytes p) ≡ record { answer = Accepted; plan = clean_plan p }
+pub plan_reads_back : (d : Default) (p : Plan) → checked_plan p ≡ Accepted → plan_read d (plan_bytes p) ≡ Ok (clean_plan p)
 unfolding plan_read plan_bytes
 plan_reads_back d p h =
     let g : GoodPlan p = accepted_plan p h in

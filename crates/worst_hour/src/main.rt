@@ -2,7 +2,8 @@
 // Prints each plan, the totals, and the longest response seen of each task beside its deadline.
 #![tactic(auto)]
 
-use tasks::{Answer, Table, Task};
+use tasks::{Table, Task};
+use texts::Text;
 
 fn task(cost: u32, deadline: u32, period: u32) -> Task {
     Task {
@@ -47,16 +48,17 @@ fn eight_cores() -> Table {
 
 // The lent bytes have room for every listing and for all of a watched run.
 fn show(table: Table) {
-    let mut text = [0u8; 16384];
+    let mut bytes = [0u8; 16384];
+    let mut text = Text {
+        bytes: &mut bytes,
+        end: 0,
+    };
     let planned = planner::plan_table(table);
-    let listed = planlines::planned(&mut text, 0, planned);
-    console::print(&text, listed);
-    let answer = planned.answer;
-    if let Answer::Accepted = answer {
-        let plan = planned.plan;
-        let told = ticklines::watched(&mut text, 0, plan, fullrate::watch(plan, 100000));
-        console::print(&text, told);
+    planlines::planned(&mut text, planned);
+    if let Ok(plan) = planned {
+        ticklines::watched(&mut text, plan, fullrate::watch(plan, 100000));
     }
+    console::print(text.said());
 }
 
 fn main() {

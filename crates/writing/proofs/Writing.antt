@@ -1,11 +1,12 @@
 -- Laws of writing: what a part from a place on holds after a field was written at its front, said of the whole buffer.
 use mathlib.Core.Path.{◌≡◌, refl, ap, sym, ◌∙◌}
+use Rattle.std.specs.Prelude.{Ok, Err}
 use mathlib.Core.List.{List, [], ◌++◌, append_assoc, append-nil}
 use Prim.Native.Nat.{ℕ, zero, suc, ◌+◌, ◌-◌, ◌*◌, ◌≤◌, ◌<◌}
 use native.Mathlib.Nat.{zero-add, add-zero, mul-suc, mul-zero}
 use native.Mathlib.Numerals.{add-one}
 use native.Mathlib.Omega.{arith}
-use lib.ListN.{length, take, drop, length-append, length-drop, drop_of_length-le, take-append-drop}
+use lib.ListN.{length, get_or, take, drop, length-append, length-drop, drop_of_length-le, take-append-drop}
 use lib.Seq.{take_at, drop_at, drop-drop, take_all, sets, sets-eq, length-take-le}
 use borrow.Rule.Slice.PartMut.{put_mid}
 use borrow.Author.Tests.{le-leb, lt-leb, leb-true}
@@ -13,8 +14,8 @@ use Rattle.tasks.specs.Below.{row}
 use Rattle.tasks.proofs.Tables.{GoodTable, accepted_good}
 use Rattle.tasks.specs.Tables.{checked_table}
 use Rattle.tasks.specs.Tables.{task_of as task_of_table}
-use Rattle.tasks.specs.declared.Answer.{Answer}
-use Rattle.tasks.specs.declared.Answer.TheVariants.{Accepted, Refused}
+use Rattle.tasks.specs.Answers.{Answer}
+use Rattle.tasks.specs.Answers.{Accepted, Refused}
 use Rattle.tasks.specs.declared.Refusal.{Refusal}
 use Rattle.tasks.specs.declared.Refusal.TheVariants.{BufferShort}
 use Rattle.tasks.specs.declared.Table.{Table}
@@ -22,15 +23,25 @@ use Rattle.tasks.specs.declared.Task.{Task}
 use Rattle.plans.proofs.InShape.{GoodPlan, accepted_plan, tests}
 use Rattle.plans.specs.Pieces.{task_of, piece_of}
 use Rattle.plans.specs.Shape.{checked_plan}
-use Rattle.plans.specs.declared.Piece.{Piece}
 use Rattle.plans.specs.declared.Plan.{Plan}
-use Rattle.writing.specs.Fields.{core_field, task_field, piece_field, tasks_bytes, table_bytes, plan_bytes}
+use Rattle.tasks.proofs.Below.{row_same}
+use Rattle.std.proofs.lemmas.List.{get_or-take}
+use denote.Enum.Declared.{tag_of}
+use Rattle.plans.specs.contracts.Kind.{the_type as the_kind}
+use Rattle.plans.specs.declared.Kind.{Kind}
+use Rattle.plans.specs.declared.Kind.TheVariants.{Whole, Share}
+use Rattle.writing.specs.Fields.{kind_byte, core_field, task_field, piece_field, tasks_bytes, table_bytes, plan_bytes}
 use Rattle.writing.specs.Writing.{after, answered, filled}
-use Rattle.writing.specs.declared.Written.TheVariants as written
+use Rattle.writing.specs.Lengths.{task_field_length, piece_field_length}
 
 -- lists that agree from n on agree further on
 drop_on : (k n : ℕ) (xs ys : List ℕ) (r : ℕ) → r ≡ n + k → drop n xs ≡ drop n ys → drop r xs ≡ drop r ys
 drop_on k n xs ys r q h = rw (q, ← drop-drop k n xs, ← drop-drop k n ys, h)
+
+-- the number of a kind
+pub kind_tag : (k : Kind) → tag_of the_kind k ≡ kind_byte k
+kind_tag Whole = refl
+kind_tag Share = refl
 
 -- one field, written into the part from `at` on
 put_part : (xs ys v : List ℕ) (at : ℕ) → at + length v ≤ length xs → ys ≡ sets (take (length xs - at) (drop at xs)) 0 v
@@ -42,13 +53,23 @@ put_part xs ys v at h q =
     let front : ys ≡ v ++ drop (at + length v) xs = q ∙ rw whole (sets-eq v (drop at xs) 0 fits ∙ rw (zero-add, drop-drop)) in
     rw (rest, front, append-nil)
 
-mul_add_one : (k n : ℕ) → k * (n + 1) ≡ k * n + k
+-- a part of as many bytes as v has, which now holds v
+pub part_written : (xs ys v : List ℕ) (at k : ℕ) → ys ≡ v → k ≡ length v → at + k ≤ length xs → put_mid at (at + k - at) xs ys ≡ sets xs at v
+part_written xs ys v at k e l h =
+    let n : at + k - at ≡ k = omega arith in
+    rw (n, e, l, drop-drop) (sym (sets-eq v xs at (omega arith) ∙ append_assoc (take at xs) v _))
+
+pub mul_add_one : (k n : ℕ) → k * (n + 1) ≡ k * n + k
 mul_add_one k n = rw (add-one, mul-suc)
 
 pub row_length : (k n : ℕ) (f : ℕ → List ℕ) → ((i : ℕ) → length (f i) ≡ k) → length (row n f) ≡ k * n
 unfolding row
 row_length k zero f h = sym (mul-zero k)
 row_length k (suc n) f h = rw (length-append, mul-suc, row_length k n f h, h n)
+
+-- a row over the first entries of a list
+pub row_taken : {A : Type 0} (n : ℕ) (xs : List A) (f : A → List ℕ) (d : A) → n ≤ length xs → row (length (take n xs)) (λ i. f (get_or (take n xs) i d)) ≡ row n (λ i. f (get_or xs i d))
+row_taken n xs f d h = rw (length-take-le n xs h) (row_same n (λ i. f (get_or (take n xs) i d)) (λ i. f (get_or xs i d)) (λ i l. ap f (get_or-take n xs i d l)))
 
 -- i fields of k bytes each stand in the buffer e from `start` on, and the next one starts at `at`
 pub record Rowed (k : ℕ) (f : ℕ → List ℕ) (start : ℕ) (e xs : List ℕ) (at i : ℕ) : Type 0 where
@@ -86,15 +107,7 @@ tasks_written e xs m n r k ts q h p =
     let front : take 4 xs ≡ core_field m = ap (take 4) split in
     rw (front, drop_on k 4 xs e r q (ap (drop 4) split))
 
--- the length of a field, and of a file
-pub task_field_length : (t : Task) → length (task_field t) ≡ 15
-unfolding task_field
-task_field_length t = refl
-
-pub piece_field_length : (z : Piece) → length (piece_field z) ≡ 10
-unfolding piece_field
-piece_field_length z = refl
-
+-- the length of a file
 pub tasks_length : (m n : ℕ) (ts : ℕ → Task) → length (tasks_bytes m n ts) ≡ 4 + 15 * n
 unfolding tasks_bytes core_field
 tasks_length m n ts = omega (arith, row_length 15 n (λ i. task_field (ts i)) (λ i. task_field_length (ts i)))
@@ -109,14 +122,14 @@ plan_length p = length-append (tasks_bytes p.cores p.count (task_of p)) (row p.p
 
 -- the three ways in which writing ends
 module _ (a : Answer) (file e : List ℕ) where
-  pub write_refused : (x : Refusal) → a ≡ Refused x → (written.Refused x ≡ answered a file e) × (e ≡ filled a file e)
+  pub write_refused : (x : Refusal) → a ≡ Refused x → (Err x ≡ answered a file e) × (e ≡ filled a file e)
   write_refused x h = rw h (refl, refl)
 
   module _ (good : a ≡ Accepted) (n : ℕ) (size : length file ≡ n) where
-    pub write_short : length e < n → (written.Refused (BufferShort n) ≡ answered a file e) × (e ≡ filled a file e)
+    pub write_short : length e < n → (Err (BufferShort n) ≡ answered a file e) × (e ≡ filled a file e)
     write_short h = rw (good, size, lt-leb n (length e) h) (refl, refl)
 
-    pub write_done : (r : ℕ) (xs : List ℕ) → r ≡ n → n ≤ length e → xs ≡ file ++ drop r e → (written.Length r ≡ answered a file e) × (xs ≡ filled a file e)
+    pub write_done : (r : ℕ) (xs : List ℕ) → r ≡ n → n ≤ length e → xs ≡ file ++ drop r e → (Ok r ≡ answered a file e) × (xs ≡ filled a file e)
     write_done r xs q h k = rw (good, size, le-leb n (length e) h, k, q) (refl, refl)
 
 -- the pieces after the tasks

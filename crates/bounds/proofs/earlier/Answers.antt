@@ -1,20 +1,24 @@
-use Prim.Native.Nat.{◌+◌}
-use Rattle.plans.proofs.Costs.{costs_none}
-use borrow.Author.Rules.{rules}
-use native.Mathlib.Omega.{arith}
-use mathlib.Core.Path.{sym}
-use Rattle.plans.specs.Pieces.{piece_of}
-use Rattle.plans.proofs.Costs.{costs_turn}
+use Rattle.std.proofs.Common.{arith, ◌≡◌, ◌+◌}
+use mathlib.Core.Path.{sym, ◌∙◌}
+use Rattle.plans.specs.Pieces.{piece_of, costs}
+use Rattle.plans.proofs.Costs.{costs_none, costs_turn}
 use Rattle.bounds.proofs.Sums.{costs_small}
 use Rattle.bounds.proofs.earlier.Goals as goal
+use Rattle.bounds.proofs.earlier.Goals.{then-eq, else-eq}
 
 pub loop-j-init : goal.loop-j-init
-loop-j-init c = (search rules, search rules, search rules, search rules, sym (costs_none _ _))
+loop-j-init c = sym (costs_none _ _)
 
 pub overflow_add-spent : goal.overflow_add-spent
-overflow_add-spent c = let p = c.args.plan in
-    omega (arith, costs_turn (piece_of p) _ _ _ _ c.loop-j.invariant.4 c.cost_of-spent.ensures, costs_small p c.loop-j.invariant.2 c.index-i.result (c.loop-j.j + 1) (omega arith))
+overflow_add-spent c =
+    let p = c.args.plan in
+    let e : c.loop-j.spent + (piece_of p c.loop-j.j).cost ≡ costs (piece_of p) (piece_of p c.args.q).task.0 (c.loop-j.j + 1) = costs_turn (piece_of p) _ _ _ _ c.loop-j.invariant (rw (sym c.eq.ensures ∙ c.if-eq.true)) in
+    omega (arith, e, costs_small p c.requires.1 (piece_of p c.args.q).task.0 (c.loop-j.j + 1) (omega arith), c.requires.1.few)
 
 pub loop-j-preserved : goal.loop-j-preserved
-loop-j-preserved c = let inv = c.loop-j.invariant in
-    (search rules, inv.1, inv.2, inv.3, costs_turn _ _ _ _ _ inv.4 c.cost_of-spent.ensures)
+loop-j-preserved c =
+    let p = c.args.plan in
+    elim c.if-eq.branch [
+      | then-eq w ↦ w.spent-is ∙ costs_turn (piece_of p) _ _ _ _ c.loop-j.invariant (rw (sym c.eq.ensures ∙ w.if-eq.true))
+      | else-eq w ↦ w.spent-is ∙ omega (arith, costs_turn (piece_of p) (piece_of p c.args.q).task.0 c.loop-j.j c.loop-j.spent 0 c.loop-j.invariant (rw (sym c.eq.ensures ∙ w.if-eq.false)))
+    ]

@@ -1,5 +1,4 @@
 use mathlib.Core.Path.{◌≡◌}
-use Prim.Native.Nat.{◌-◌, ◌≤◌}
 use Rattle.tasks.specs.Below.{padded}
 use Rattle.jobs.specs.Jobs.{no_run}
 use Rattle.dispatch.specs.Choice.{StandsOf, found}
@@ -7,7 +6,4 @@ use Rattle.dispatch.specs.declared.State.{State}
 use Rattle.dispatch.proofs.choose.Given as goal
 
 abbrev pub invariant-loop-i : goal.invariant-loop-i
-invariant-loop-i l = (l.i ≤ l.plan.count) × ((s : State) → StandsOf l.plan s l.stands → l.runs ≡ padded 16 l.plan.cores no_run (found l.plan s l.i))
-
-abbrev pub decreases-loop-i : goal.decreases-loop-i
-decreases-loop-i l = l.plan.count - l.i
+invariant-loop-i l = (s : State) → StandsOf l.fn.plan s l.fn.stands → l.runs ≡ padded 16 l.fn.plan.cores no_run (found l.fn.plan s l.i)

@@ -1,6 +1,6 @@
 use mathlib.Core.Bool.{false}
 use mathlib.Core.Path.{◌≡◌}
-use Prim.Native.Nat.{min, ◌-◌, ◌≤◌}
+use Prim.Native.Nat.{min}
 use lib.ListN.{get_or}
 use Rattle.tasks.specs.Below.{tabulate}
 use Rattle.dispatch.specs.Refusing.{lowest_no}
@@ -8,13 +8,7 @@ use Rattle.dispatch.proofs.Judging.{not_run_on, lowest_of}
 use Rattle.dispatch.proofs.lowest_not_run.Given as goal
 
 abbrev pub invariant-loop-x : goal.invariant-loop-x
-invariant-loop-x l = (l.x ≤ l.known) × (l.known ≤ 16) × (l.wrong ≡ tabulate 257 (not_run_on l.count l.last l.x))
+invariant-loop-x l = (l.x-end ≡ min l.fn.cores 16) × (l.wrong ≡ tabulate 256 (not_run_on l.fn.count l.fn.last l.x))
 
-abbrev pub decreases-loop-x : goal.decreases-loop-x
-decreases-loop-x l = l.known - l.x
-
-abbrev pub invariant-loop-k : goal.invariant-loop-k
-invariant-loop-k l = (l.k ≤ l.members) × (l.members ≤ 64) × (l.members ≡ min l.finished.count 64) × (lowest_no l.low ≡ lowest_of l.finished (λ t. get_or l.wrong t false) l.k)
-
-abbrev pub decreases-loop-k : goal.decreases-loop-k
-decreases-loop-k l = l.members - l.k
+abbrev pub invariant-loop-task : goal.invariant-loop-task
+invariant-loop-task l = lowest_no l.low ≡ lowest_of l.fn.finished (λ t. get_or l.wrong t false) l.task-index

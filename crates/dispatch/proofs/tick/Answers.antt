@@ -1,24 +1,22 @@
 use mathlib.Core.Path.{◌≡◌, sym, ◌∙◌}
-use Rattle.tasks.specs.declared.Answer.TheVariants.{Accepted}
-use Rattle.dispatch.specs.Advance.{checked}
+use Rattle.tasks.specs.Answers.{Accepted, Refused}
 use Rattle.dispatch.specs.Tick.{judged, tick}
-use Rattle.dispatch.proofs.CheckedTick.{advance_answer, advance_next}
+use Rattle.dispatch.proofs.CheckedTick.{Taken, taken}
 use Rattle.dispatch.proofs.tick.Goals as goal
 
-pub returns-in-Accepted-answer : goal.returns-in-Accepted-answer
-unfolding tick judged
-returns-in-Accepted-answer c =
-    let a = c.args in
-    let passed : checked a.plan a.state ≡ Accepted = sym (advance_answer a.plan a.state a.finished a.released _ c.advance-advanced.ensures) ∙ c.in-Accepted.is in
-    simp (passed, ← c.judge_sets-answer.ensures, c.in-Accepted-answer.is, advance_next a.plan a.state a.finished a.released _ c.advance-advanced.ensures passed)
+pub next-next-requires : goal.next-next-requires
+next-next-requires c = let a = c.args in let k : Taken a.plan a.state a.finished a.released = taken a.plan a.state a.finished a.released (sym c.judge.ensures ∙ c.in-Ok.is) in (k.plan, k.state)
 
-pub returns-in-Refused-answer : goal.returns-in-Refused-answer
-unfolding tick judged
-returns-in-Refused-answer c =
+pub returns-in-Ok : goal.returns-in-Ok
+unfolding tick
+returns-in-Ok c =
     let a = c.args in
-    let passed : checked a.plan a.state ≡ Accepted = sym (advance_answer a.plan a.state a.finished a.released _ c.advance-advanced.ensures) ∙ c.in-Accepted.is in
-    simp (c.refused.ensures, passed, ← c.judge_sets-answer.ensures, c.in-Refused-answer.is)
+    let e : judged a.plan a.state a.finished a.released ≡ Accepted = sym c.judge.ensures ∙ c.in-Ok.is in
+    rw (e, c.next-next.ensures)
 
-pub returns-in-Refused : goal.returns-in-Refused
-unfolding tick judged
-returns-in-Refused c = let a = c.args in simp (c.refused-in-Refused.ensures, ← advance_answer a.plan a.state a.finished a.released _ c.advance-advanced.ensures, c.in-Refused.is)
+pub returns-in-Err : goal.returns-in-Err
+unfolding tick
+returns-in-Err c =
+    let a = c.args in
+    let e : judged a.plan a.state a.finished a.released ≡ Refused c.in-Err.refusal = sym c.judge.ensures ∙ c.in-Err.is in
+    rw e

@@ -1,22 +1,31 @@
-use Rattle.files.proofs.Fields.{reader, read_more, read_done, goes_on_lem, settled_bad, good_room}
+use Rattle.files.proofs.Fields.{reader, read_more, read_done, read_refused, settled_bad, good_room}
 use Rattle.files.specs.Fields.{read, settled}
-use lib.ListN.{length, drop}
+use lib.ListN.{drop}
 use Prim.Native.Nat.{◌+◌}
-use native.Mathlib.Omega.{arith}
-use mathlib.Core.Path.{sym, ap, ◌∙◌}
+use mathlib.Core.Path.{◌≡◌, sym, ap, ◌∙◌}
 use Rattle.files.proofs.feed.Goals as goal
+use Rattle.files.proofs.feed.Goals.{Joined-found-eq0, then-found-eq0, else-found-eq0+then-found-ne1, else-found-eq0+else-found-ne1}
 
 pub added-plan-requires : goal.added-plan-requires
 added-plan-requires c = good_room _ _ (sym c.verdict-found.ensures ∙ c.if-found-eq0.true)
 
-pub loop-i-preserved-then-found-eq0 : goal.loop-i-preserved-then-found-eq0
-loop-i-preserved-then-found-eq0 c = (omega (arith, (goes_on_lem c.loop-i.i (length c.args.part.now) c.loop-i.f.bad c.loop-i-test.true).0), rw (c.next-f.ensures, c.added-plan.ensures) (ap (λ v. read (settled v c.hold-f.result c.loop-i.plan) (drop (c.loop-i.i + 1) c.args.part.now)) (sym c.if-found-eq0.true) ∙ read_more c.loop-i.f c.loop-i.plan c.args.part.now c.loop-i.i c.hold-f.result c.verdict-found.result (read (reader c.args.reader.field c.args.reader.plan) c.args.part.now) c.loop-i-test.true c.hold-f.ensures c.verdict-found.ensures c.loop-i.invariant.1))
+-- what the verdict makes of the reader
+settles : (c : Joined-found-eq0) → reader c.if-found-eq0.f c.if-found-eq0.plan ≡ settled c.verdict-found.result c.hold-f.result c.loop-byte.plan
+settles c =
+    elim c.if-found-eq0.branch [
+      | then-found-eq0 w ↦ rw (w.f-is, w.plan-is, w.if-found-eq0.true, w.next-f.ensures, w.added-plan.ensures)
+      | else-found-eq0+then-found-ne1 w ↦ rw (w.f-is, w.plan-is, settled_bad c.verdict-found.result c.hold-f.result c.loop-byte.plan w.if-found-eq0.false w.if-found-ne1.true)
+      | else-found-eq0+else-found-ne1 w ↦ rw (w.f-is, w.plan-is, w.if-found-ne1.false)
+    ]
 
-pub loop-i-preserved-then-found-ne1 : goal.loop-i-preserved-then-found-ne1
-loop-i-preserved-then-found-ne1 c = (omega (arith, (goes_on_lem c.loop-i.i (length c.args.part.now) c.loop-i.f.bad c.loop-i-test.true).0), ap (λ r. read r (drop (c.loop-i.i + 1) c.args.part.now)) (sym (settled_bad _ _ _ c.if-found-eq0.false c.if-found-ne1.true)) ∙ read_more c.loop-i.f c.loop-i.plan c.args.part.now c.loop-i.i c.hold-f.result c.verdict-found.result (read (reader c.args.reader.field c.args.reader.plan) c.args.part.now) c.loop-i-test.true c.hold-f.ensures c.verdict-found.ensures c.loop-i.invariant.1)
+pub loop-byte-preserved : goal.loop-byte-preserved
+loop-byte-preserved c =
+    let l = c.loop-byte in
+    ap (λ r. read r (drop (l.byte-index + 1) c.args.part.now)) (settles c)
+    ∙ read_more l.f l.plan c.args.part.now l.byte-index _ _ (read c.args.reader c.args.part.now) c.loop-byte-test.true c.if-f-ne0.false c.hold-f.ensures c.verdict-found.ensures l.invariant
 
-pub loop-i-preserved : goal.loop-i-preserved
-loop-i-preserved c = (omega (arith, (goes_on_lem c.loop-i.i (length c.args.part.now) c.loop-i.f.bad c.loop-i-test.true).0), ap (λ v. read (settled v c.hold-f.result c.loop-i.plan) (drop (c.loop-i.i + 1) c.args.part.now)) (sym c.if-found-ne1.false) ∙ read_more c.loop-i.f c.loop-i.plan c.args.part.now c.loop-i.i c.hold-f.result c.verdict-found.result (read (reader c.args.reader.field c.args.reader.plan) c.args.part.now) c.loop-i-test.true c.hold-f.ensures c.verdict-found.ensures c.loop-i.invariant.1)
+pub returns-after-loop-byte : goal.returns-after-loop-byte
+returns-after-loop-byte c = sym (read_done _ c.args.part.now c.loop-byte.byte-index c.loop-byte-test.false) ∙ c.loop-byte.invariant
 
-pub returns : goal.returns
-returns c = sym (read_done _ _ c.args.part.now c.loop-i.i c.loop-i-test.false) ∙ c.loop-i.invariant.1
+pub returns-then-f-ne0 : goal.returns-then-f-ne0
+returns-then-f-ne0 c = sym (read_refused _ _ _ c.if-f-ne0.true) ∙ c.loop-byte.invariant

@@ -1,10 +1,7 @@
 use Rattle.fullrate.specs.Allowed.{allowed_below}
-use Prim.Native.Nat.{◌≤◌, ◌-◌}
+use Prim.Native.Nat.{min}
 use mathlib.Core.Path.{◌≡◌}
 use Rattle.fullrate.proofs.all_allowed.Given as goal
 
 abbrev pub invariant-loop-i : goal.invariant-loop-i
-invariant-loop-i l = (l.i ≤ l.count) × (l.count ≤ 64) × (l.set ≡ allowed_below l.plan l.state l.i)
-
-abbrev pub decreases-loop-i : goal.decreases-loop-i
-decreases-loop-i l = l.count - l.i
+invariant-loop-i l = (l.i-end ≡ min l.fn.plan.count 64) × (l.set ≡ allowed_below l.fn.plan l.fn.state l.i)

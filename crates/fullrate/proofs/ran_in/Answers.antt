@@ -1,13 +1,9 @@
-use mathlib.Core.Path.{refl}
-use native.Mathlib.Omega.{arith}
-use Rattle.tasks.specs.Below.{any}
-use Rattle.tasks.proofs.Below.{any_more}
-use borrow.Author.Rules.{rules}
+use mathlib.Core.Path.{◌≡◌, ◌∙◌}
+use lib.ListN.{length}
+use Rattle.fullrate.proofs.Cores.{ran_read}
 use Rattle.fullrate.proofs.ran_in.Goals as goal
 
-pub loop-x-init : goal.loop-x-init
-unfolding any
-loop-x-init c = (search rules, omega (arith, c.smaller-most.ensures), refl)
-
-pub loop-x-preserved : goal.loop-x-preserved
-loop-x-preserved c = (search rules, search rules, simp (any_more, ← c.loop-x.invariant.2, c.runs_here-ran.ensures))
+pub returns : goal.returns
+returns c =
+    let size : length c.args.runs ≡ 16 = c.well_formed.1.0.1.0.1 in
+    c.contains.ensures.value ∙ ran_read c.args.cores _ c.args.runs c.args.task size c.min.ensures

@@ -1,11 +1,17 @@
+use mathlib.Core.Path.{sym, ◌∙◌}
+use Rattle.std.proofs.lemmas.Result.{err_from_is_err_and}
 use Rattle.planfile.proofs.Outcomes.{not_read, not_planned, was_written}
 use Rattle.planfile.proofs.plan_file.Goals as goal
 
-pub returns-in-Refused : goal.returns-in-Refused
-returns-in-Refused c = not_read _ _ _ c.in-Refused.is
+pub returns-in_err-table : goal.returns-in_err-table
+returns-in_err-table c =
+    let e = err_from_is_err_and c.from_residual.result c.from_residual.ensures.1 in
+    rw (e.1, e.2) (not_read _ _ _ c.in_err-table.was)
 
-pub returns-in-Refused-made : goal.returns-in-Refused-made
-returns-in-Refused-made c = not_planned _ _ c.in_default.is _ c.plan_table-planned.ensures _ c.in-Refused-made.is
+pub returns-in_err-plan : goal.returns-in_err-plan
+returns-in_err-plan c =
+    let e = err_from_is_err_and c.from_residual-in_err-plan.result c.from_residual-in_err-plan.ensures.1 in
+    rw (e.1, e.2) (not_planned _ _ _ c.in_ok-table.was _ (sym c.plan_table.ensures ∙ c.in_err-plan.was))
 
 pub returns : goal.returns
-returns c = was_written _ _ c.in_default.is _ c.plan_table-planned.ensures c.in_default-made.is _ _ c.write_plan.ensures
+returns c = was_written _ _ _ c.in_ok-table.was _ (sym c.plan_table.ensures ∙ c.in_ok-plan.was) _ _ c.write_plan.ensures

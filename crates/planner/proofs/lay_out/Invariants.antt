@@ -1,11 +1,6 @@
-use Prim.Native.Nat.{◌≤◌, ◌-◌}
 use mathlib.Core.Path.{◌≡◌}
-use Rattle.planner.specs.Layout.{laid, lay_first}
-use Rattle.planner.specs.Whole.{draft}
+use Rattle.planner.specs.Layout.{start, laid, lay_first}
 use Rattle.planner.proofs.lay_out.Given as goal
 
 abbrev pub invariant-loop-i : goal.invariant-loop-i
-invariant-loop-i l = (l.i ≤ l.n) × (lay_first (draft l.initial.plan l.initial.closed) l.i ≡ laid (draft l.plan l.closed))
-
-abbrev pub decreases-loop-i : goal.decreases-loop-i
-decreases-loop-i l = l.n - l.i
+invariant-loop-i l = lay_first (start l.fn.table) l.i ≡ laid l.draft

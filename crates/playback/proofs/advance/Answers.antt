@@ -1,17 +1,27 @@
+use lib.ListN.{length, take}
+use borrow.Author.Rules.{rules}
+use Rattle.playback.specs.Replay.{Comes, played_in, beginning}
 use native.Mathlib.Omega.{arith}
 use Rattle.texts.proofs.Putting.{no_room, has_room}
-use Rattle.playback.proofs.Course.{playing_within, playing_next, playing_short, playing_stuck}
-use borrow.Author.Rules.{rules}
+use Rattle.playback.proofs.Course.{playing_within, playing_next, playing_short, playing_stuck, comes_in}
 use Rattle.playback.proofs.advance.Goals as goal
+use Rattle.playback.proofs.advance.Goals.{else-loop-plan-test, then-loop-plan-test+in_default}
 
 pub loop-plan-smaller : goal.loop-plan-smaller
-loop-plan-smaller c = let w = playing_within _ _ _ _ _ _ _ _ _ c.loop-plan.invariant.4 _ c.judge-judged.ensures.0 c.in_default.is in omega arith
+loop-plan-smaller c = let w = playing_within c.loop-plan.invariant _ _ c.judge.ensures c.in-Ok.is in omega arith
+
+pub overflow_add-at : goal.overflow_add-at
+overflow_add-at c = let w = playing_within c.loop-plan.invariant _ _ c.judge.ensures c.in-Ok.is in record { fits = omega arith }
 
 pub loop-plan-preserved : goal.loop-plan-preserved
-loop-plan-preserved c = let w = playing_within _ _ _ _ _ _ _ _ _ c.loop-plan.invariant.4 _ c.judge-judged.ensures.0 c.in_default.is in (search rules, search rules, search rules, w.0, playing_next _ _ _ _ _ _ _ _ _ c.loop-plan.invariant.4 _ c.judge-judged.ensures.0 c.in_default.is _ c.asked-made.ensures (has_room c.short.ensures c.loop-plan-test.true) c.ticked-end.ensures)
+loop-plan-preserved c = playing_next c.loop-plan.invariant _ _ c.judge.ensures c.in-Ok.is _ c.asked-made.ensures (has_room c.is_short.ensures c.loop-plan-test.true) c.ticked.ensures
 
-pub returns-after-loop-plan : goal.returns-after-loop-plan
-returns-after-loop-plan c = playing_short _ _ _ _ _ _ _ _ _ c.loop-plan.invariant.4 (no_room c.short.ensures c.loop-plan-test.false)
-
-pub returns-in-Refused : goal.returns-in-Refused
-returns-in-Refused c = playing_stuck _ _ _ _ _ _ _ _ _ c.loop-plan.invariant.4 _ _ c.judge-judged.ensures.0 c.in-Refused.is
+pub returns : goal.returns
+returns c =
+    let named = c.loop-plan.invariant.lines.lent in
+    let done : Comes c.args.count (take c.args.count c.args.bytes) (played_in c.args.count c.args.plan (length c.args.out.now) (beginning c.args.begun (take c.args.count c.args.bytes))) c.args.out.now c.loop-plan.text.bytes.now (record { state = c.loop-plan.state; at = c.loop-plan.at; length = c.loop-plan.text.end }) =
+    elim c.loop-plan-test.branch [
+      | else-loop-plan-test w ↦ playing_short c.loop-plan.invariant (no_room c.is_short.ensures w.loop-plan-test.false)
+      | then-loop-plan-test+in_default w ↦ playing_stuck c.loop-plan.invariant _ _ w.judge.ensures w.in_default.is
+    ] in
+    comes_in (search rules) done

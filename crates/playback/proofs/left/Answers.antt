@@ -1,12 +1,9 @@
-use borrow.Author.Rules.{rules}
-use mathlib.Core.Path.{refl}
-use native.Mathlib.Omega.{arith}
-use Rattle.tasks.proofs.Padded.{padded_turn}
-use Rattle.tasks.proofs.Tabulate.{padded_start}
+use mathlib.Core.Path.{◌≡◌}
+use lib.ListN.{length}
+use Rattle.playback.proofs.Course.{left_is}
 use Rattle.playback.proofs.left.Goals as goal
 
-pub loop-i-init : goal.loop-i-init
-loop-i-init c = (search rules, search rules, search rules, search rules, padded_start 4096 0 _)
-
-pub loop-i-preserved : goal.loop-i-preserved
-loop-i-preserved c = (search rules, search rules, search rules, omega arith, padded_turn 4096 0 _ _ _ _ (omega arith) c.loop-i.invariant.4 refl)
+pub returns : goal.returns
+returns c =
+    let l : length c.args.bytes ≡ 4096 = c.well_formed.0.1.0.1 in
+    left_is c.args.bytes _ c.args.count c.args.at l c.requires.1 c.requires.0 c.copy_from_slice.ensures.after

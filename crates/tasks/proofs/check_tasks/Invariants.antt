@@ -1,5 +1,5 @@
 use Rattle.tasks.specs.Tables.{cores_fit, tasks_fit}
-use Prim.Native.Nat.{ℕ, ◌≤◌, ◌<◌, ◌-◌}
+use Prim.Native.Nat.{ℕ, ◌<◌}
 use mathlib.Core.Path.{◌≡◌}
 use mathlib.Core.Bool.{true}
 use lib.ListN.{get_or}
@@ -7,7 +7,4 @@ use Rattle.tasks.specs.Tables.{no_task, values_fit}
 use Rattle.tasks.proofs.check_tasks.Given as goal
 
 abbrev pub invariant-loop-i : goal.invariant-loop-i
-invariant-loop-i l = (l.i ≤ l.count) × (l.count ≤ 64) × (cores_fit l.cores ≡ true) × (tasks_fit l.count ≡ true) × ((k : ℕ) → k < l.i → values_fit (get_or l.tasks k no_task) ≡ true)
-
-abbrev pub decreases-loop-i : goal.decreases-loop-i
-decreases-loop-i l = l.count - l.i
+invariant-loop-i l = (cores_fit l.cores ≡ true) × (tasks_fit l.count ≡ true) × ((k : ℕ) → k < l.i → values_fit (get_or l.fn.tasks k no_task) ≡ true)

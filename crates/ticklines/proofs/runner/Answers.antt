@@ -1,11 +1,11 @@
 use native.Mathlib.Omega.{arith}
-use Rattle.texts.proofs.Putting.{no_room, has_room, put_short}
+use Rattle.texts.proofs.Putting.{has_room, put_short}
 use Rattle.texts.proofs.Telling.{refused_put}
 use Rattle.ticklines.specs.Running.{runner_most}
 use Rattle.ticklines.proofs.runner.Goals as goal
 
-pub returns-then-short : goal.returns-then-short
-returns-then-short c = put_short _ _ _ _ (no_room c.short.ensures c.if-short.true)
+pub returns-then-is_short : goal.returns-then-is_short
+returns-then-is_short c = put_short c.args.text.now c.is_short.ensures c.if-is_short.true
 
-pub returns-in-Refused : goal.returns-in-Refused
-returns-in-Refused c = refused_put _ _ _ _ runner_most _ c.in-Refused.is c.refusal.ensures (omega arith) (has_room c.short.ensures c.if-short.false)
+pub returns-in-Err : goal.returns-in-Err
+returns-in-Err c = refused_put _ _ runner_most _ c.in-Err.is c.refusal.ensures (omega arith) (has_room c.is_short.ensures c.if-is_short.false)

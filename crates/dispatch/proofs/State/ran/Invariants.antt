@@ -1,6 +1,6 @@
 use mathlib.Core.Bool.{cond}
 use mathlib.Core.Path.{◌≡◌}
-use Prim.Native.Nat.{ℕ, ◌-◌, ◌≤◌}
+use Prim.Native.Nat.{ℕ}
 use Rattle.plans.specs.declared.Plan.{Plan}
 use Rattle.jobs.specs.declared.Job.{Job}
 use Rattle.dispatch.specs.Rules.{runs_now, ran_job}
@@ -13,7 +13,4 @@ abbrev pub ran_by : Plan → State → ℕ → Job → Job
 ran_by p s i j = cond (runs_now p s i) (ran_job p j) j
 
 abbrev pub invariant-loop-i : goal.invariant-loop-i
-invariant-loop-i l = (l.i ≤ l.plan.count) × (l.plan.count ≤ 64) × (l.self ≡ changed (ran_by l.plan l.initial.self) l.initial.self l.i)
-
-abbrev pub decreases-loop-i : goal.decreases-loop-i
-decreases-loop-i l = l.plan.count - l.i
+invariant-loop-i l = l.self ≡ changed (ran_by l.fn.plan l.fn.self) l.fn.self l.i

@@ -1,7 +1,0 @@
-use mathlib.Core.Path.{refl}
-use Rattle.planner.specs.Whole.{put}
-use Rattle.planner.proofs.with_piece.Goals as goal
-
-pub returns : goal.returns
-unfolding put
-returns c = refl
