@@ -2,7 +2,6 @@
 #![tactic(auto)]
 
 use files::Default;
-use jobs::Tasks;
 use plans::Plan;
 use tasks::TaskNo;
 
@@ -31,7 +30,7 @@ fn of_runs(sum: u64, runs: [Option<TaskNo>; 16], cores: usize) -> u64 {
     all
 }
 
-// The table file planned; 0 on a refusal.
+// The checksum of a table file's plan; 0 on a refusal.
 #[unsafe(no_mangle)]
 pub extern "C" fn bench_ours_plan(table: &[u8]) -> u64 {
     let planned = files::read_table(Default::Eight, table).and_then(|given| planner::plan_table(
@@ -48,14 +47,10 @@ pub extern "C" fn bench_ours_ticks(plan: &[u8], count: u32) -> u64 {
 
 // The checksum of so many ticks; 0 where one is refused.
 fn of_ticks(plan: Plan, count: u32) -> u64 {
-    let none = Tasks {
-        members: [TaskNo(0); 64],
-        count: 0,
-    };
     let mut state = dispatch::fresh();
     let mut sum = 0;
     for _ in 0..count {
-        let ticked = dispatch::tick(plan, state, none, fullrate::all_allowed(plan, state));
+        let ticked = fullrate::full_tick(plan, state);
         if ticked.answer.is_err() {
             return 0;
         }

@@ -5,7 +5,7 @@ ghost use Rattle.std.specs.Prelude.{◌≡◌};
 ghost use Rattle.dispatch.specs.Tick.{tick as ticked};
 ghost use Rattle.board.specs.Ran.{ran_of};
 
-use dispatch::State;
+use dispatch::{State, Ticked};
 use jobs::Tasks;
 use plans::Plan;
 use tasks::{Refusal, TaskNo};
@@ -18,6 +18,19 @@ pub struct Ran {
     pub runs: [Option<TaskNo>; 16],
 }
 
+impl From<Ticked> for Ran {
+    ghost from_gives = { λ ticked ran. ran ≡ ran_of ticked };
+
+    // By a `let`: the proof does not take an array of another value straight into a literal.
+    fn from(ticked: Ticked) -> Ran {
+        let runs = ticked.runs;
+        Ran {
+            answer: ticked.answer,
+            runs,
+        }
+    }
+}
+
 // One tick of the record where it stands, for any plan, any record and any two sets. On a refusal the record is as it was.
 pub fn step(state: &mut State, plan: Plan, finished: Tasks, released: Tasks) -> Ran
     ensures { (result ≡ ran_of (ticked plan state.old finished released)) × (state.new ≡ (ticked plan state.old finished released).state) }
@@ -25,10 +38,6 @@ pub fn step(state: &mut State, plan: Plan, finished: Tasks, released: Tasks) -> 
     let here = *state;
     let ticked = dispatch::tick(plan, here, finished, released);
     let next = ticked.state;
-    let runs = ticked.runs;
     *state = next;
-    Ran {
-        answer: ticked.answer,
-        runs,
-    }
+    Ran::from(ticked)
 }

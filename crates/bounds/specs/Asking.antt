@@ -1,7 +1,6 @@
 -- The planner's bound, asked from outside.
 use Rattle.std.specs.Prelude.{cond, ℕ, ltb, Result, Ok, Err}
-use Rattle.tasks.specs.Answers.{Answer}
-use Rattle.tasks.specs.Answers.{Accepted, Refused}
+use Rattle.tasks.specs.Answers.{Answer, Accepted, Refused}
 use Rattle.tasks.specs.declared.Refusal.{Refusal}
 use Rattle.tasks.specs.declared.Refusal.TheVariants.{NoPlanShape}
 use Rattle.bounds.specs.Bound.{local_deadline, bound}

@@ -1,4 +1,5 @@
 // Local deadline and bound of a piece, for sister crates and asked from outside.
+// `Moderate` stands in the clauses and in no type: a type with it would be a second plan record.
 #![tactic(auto)]
 
 ghost use Rattle.std.specs.Prelude.{◌≡◌, ◌&&◌, cond, ◌≤◌, ◌<◌, eqb, length};

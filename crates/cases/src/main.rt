@@ -4,7 +4,7 @@
 use dispatch::State;
 use files::Default;
 use force::InForce;
-use jobs::{Job, Phase, Tasks};
+use jobs::{Job, NO_JOB, Tasks};
 use plans::{Kind, Piece, Plan};
 use tasks::{CoreNo, Refusal, Table, Task, TaskNo};
 use texts::Text;
@@ -259,13 +259,7 @@ fn ticks(plan: Plan) {
         Some(0),
     );
     let mut aged = fresh;
-    aged.jobs[0] = Job {
-        phase: Phase::Never,
-        late: false,
-        piece: 0,
-        age: 1,
-        ran: 0,
-    };
+    aged.jobs[0] = Job { age: 1, ..NO_JOB };
     tick(b"a task never released of age 1: ", plan, aged, None, None);
     say(b"after 40 ticks at full rate: ");
     let seen = fullrate::watch(plan, 40);

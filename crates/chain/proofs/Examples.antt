@@ -14,13 +14,12 @@ use Rattle.tasks.specs.Places.{further}
 use Rattle.std.specs.Prelude.{Ok, replicate}
 use Rattle.tasks.specs.Tables.{checked_tasks, no_task, task_no, core_no}
 use Rattle.tasks.specs.declared.Table.{Table}
-use Rattle.plans.specs.Pieces.{no_piece}
+use Rattle.plans.specs.Pieces.{no_piece, costs}
 use Rattle.plans.specs.declared.Kind.{Kind}
 use Rattle.plans.specs.declared.Kind.TheVariants.{Whole, Share}
 use Rattle.plans.specs.declared.Piece.{Piece}
 use Rattle.plans.specs.declared.Plan.{Plan}
 use Rattle.plans.specs.Interference.{interference, periods}
-use Rattle.plans.specs.Pieces.{costs}
 use Rattle.plans.specs.Rank.{above}
 use Rattle.bounds.specs.Bound.{local_deadline, load, bound}
 use Rattle.planner.specs.Layout.{start, place, lay_first, planned}

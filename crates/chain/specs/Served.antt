@@ -17,7 +17,7 @@ use Rattle.promise.specs.Demand3.{Demand3, PlanOf}
 use Rattle.promise.specs.Requests.{reached}
 use Rattle.chain.specs.Asked.{asked_in}
 
--- p is the planner's plan for the table t that bytes hold
+-- what holds of a table and a plan: `bytes_to_deadlines` says it of the table that bytes hold and of the planner's plan for it
 pub record Served (t : Table) (p : Plan) : Type 1 where
   -- the table is good, and the plan is one of it
   pub good : checked_table t ≡ Accepted

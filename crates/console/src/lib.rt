@@ -41,7 +41,7 @@ pub fn read_plan(rt: &impl Input, default: Default) -> Result<Plan, Refusal> {
     files::close_plan(feed_all(rt, files::start_plan(default)))
 }
 
-// The first n bytes of a buffer, or all that it has, read as a plan file with this default.
+// The first n bytes of a buffer, or all that it has, read as a plan file with this default. Its clause speaks of any n, so n stands beside the bytes.
 pub fn plan_in(default: Default, bytes: &[u8], n: usize) -> Result<Plan, Refusal>
     ensures { result ≡ plan_read default (take n bytes.now) }
 {

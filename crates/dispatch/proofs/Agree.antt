@@ -21,7 +21,7 @@ use Rattle.plans.specs.Pieces.{task_of, piece_of, SamePlan}
 use Rattle.plans.specs.Rank.{above}
 use Rattle.plans.specs.declared.Piece.{Piece}
 use Rattle.plans.specs.declared.Plan.{Plan}
-use Rattle.jobs.specs.Jobs.{no_job, no_run, by_runner, once_released, names}
+use Rattle.jobs.specs.Jobs.{no_job, no_run, by_runner, once_released, names, Runner, Idle, Runs}
 use Rattle.dispatch.specs.States.{job_of, last_of, SameState, well_made}
 use Rattle.dispatch.specs.Refusing.{not_run, too_soon, still_active, lowest, judged_sets}
 use Rattle.dispatch.specs.Tick.{judged, answered, tick}
@@ -30,9 +30,7 @@ use Rattle.jobs.specs.Sets.{member, SameSet}
 use Rattle.dispatch.specs.Sound.{Sound, AtPieces}
 use Rattle.dispatch.specs.Advance.{next_state, checked}
 use Rattle.jobs.specs.WellMade.{piece_exists, job_well_made, core_well_made}
-use Rattle.jobs.specs.Jobs.{Runner}
 use Rattle.jobs.specs.declared.Job.{Job}
-use Rattle.jobs.specs.Jobs.{Idle, Runs}
 use Rattle.dispatch.specs.declared.State.{State}
 use Rattle.jobs.specs.declared.Tasks.{Tasks}
 use Rattle.dispatch.proofs.Checked.{Good, good, sound}

@@ -22,13 +22,11 @@ use Rattle.dispatch.proofs.Highest.{runner_stands}
 use Rattle.dispatch.proofs.Walks.{padded_has}
 use Rattle.dispatch.specs.Choice.{no_stand, stand_of, StandsOf, found}
 use Rattle.std.specs.Option.{is_some}
-use Rattle.jobs.specs.Jobs.{no_run, by_runner, is_active, names}
+use Rattle.jobs.specs.Jobs.{no_run, by_runner, is_active, names, Runner, Idle, Runs}
 use Rattle.dispatch.specs.States.{job_of}
 use Rattle.dispatch.specs.Rules.{piece_at, stands_on, beats, highest, chosen, runs_now, ran_job}
 use Rattle.dispatch.specs.Sound.{Sound}
-use Rattle.jobs.specs.Jobs.{Runner}
 use Rattle.jobs.specs.declared.Job.{Job}
-use Rattle.jobs.specs.Jobs.{Idle, Runs}
 use Rattle.dispatch.specs.declared.Stand.{Stand}
 use Rattle.dispatch.specs.declared.State.{State}
 

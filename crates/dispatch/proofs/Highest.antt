@@ -14,11 +14,9 @@ use Rattle.plans.specs.Pieces.{task_of}
 use Rattle.plans.specs.Rank.{above}
 use Rattle.plans.specs.declared.Plan.{Plan}
 use Rattle.plans.proofs.Rank.{above_self, above_chain, above_total}
-use Rattle.jobs.specs.Jobs.{is_active, names}
+use Rattle.jobs.specs.Jobs.{is_active, names, Runner, Idle, Runs}
 use Rattle.dispatch.specs.States.{job_of}
 use Rattle.dispatch.specs.Rules.{piece_at, stands_on, beats, highest}
-use Rattle.jobs.specs.Jobs.{Runner}
-use Rattle.jobs.specs.Jobs.{Idle, Runs}
 use Rattle.dispatch.specs.declared.State.{State}
 
 idle_not : {A : Type 0} {t : TaskNo} → Idle ≡ Runs t → A

@@ -22,13 +22,12 @@ use Rattle.tasks.proofs.Tabulate.{tabulate_same, tabulate_turn}
 use Rattle.plans.specs.Pieces.{task_of}
 use Rattle.plans.specs.declared.Plan.{Plan}
 use Rattle.std.specs.Prelude.{Option, None, Some}
-use Rattle.jobs.specs.Jobs.{no_job, no_run, names, is_active, once_released, Idle, Runs}
+use Rattle.jobs.specs.Jobs.{no_job, no_run, names, is_active, once_released, Idle, Runs, Runner}
 use Rattle.dispatch.specs.States.{job_of}
 use Rattle.tasks.specs.declared.Refusal.TheVariants.{NotRun, TooSoon, StillActive}
 use Rattle.dispatch.specs.Refusing.{not_run, too_soon, still_active, lowest_no, lowest, judged_sets}
 use Rattle.dispatch.specs.Rules.{each_job, ended_job, finished_job, finish}
 use Rattle.jobs.specs.Sets.{member}
-use Rattle.jobs.specs.Jobs.{Runner}
 use Rattle.jobs.specs.declared.Job.{Job}
 use Rattle.jobs.specs.declared.Phase.{Phase}
 use Rattle.jobs.specs.declared.Phase.TheVariants.{Never, Active, Ended}

@@ -8,22 +8,19 @@ use lib.Dec.{ltb}
 use lib.ListN.{replicate}
 use borrow.Author.Tests.{lt-ltb, eq-eqb}
 use Rattle.tasks.specs.Below.{any}
-use Rattle.tasks.specs.Answers.{Answer}
-use Rattle.tasks.specs.Answers.{Accepted, Refused}
+use Rattle.tasks.specs.Answers.{Answer, Accepted, Refused}
 use Rattle.tasks.specs.declared.Refusal.{Refusal}
 use Rattle.tasks.proofs.Below.{all_make, any_none}
 use Rattle.tasks.proofs.Bools.{either, both, both_make}
 use Rattle.tasks.proofs.Answers.{accepted_not}
 use Rattle.tasks.proofs.Tabulate.{replicate_at}
 use Rattle.plans.specs.declared.Plan.{Plan}
-use Rattle.jobs.specs.Jobs.{no_job, no_run, by_runner, is_active, once_released, names}
+use Rattle.jobs.specs.Jobs.{no_job, no_run, by_runner, is_active, once_released, names, Runner, Idle, Runs}
 use Rattle.dispatch.specs.States.{fresh_state, job_of, last_of, CleanState, well_made}
 use Rattle.dispatch.specs.Tick.{judged, answered, tick}
 use Rattle.dispatch.specs.Rules.{each_job, finish, mark_late, release, stands_on, highest, runs_now, ran_job, run, count_preempted, aged_job, age}
 use Rattle.dispatch.specs.Advance.{next_state}
 use Rattle.jobs.specs.WellMade.{job_well_made, core_well_made}
-use Rattle.jobs.specs.Jobs.{Runner}
-use Rattle.jobs.specs.Jobs.{Idle, Runs}
 use Rattle.dispatch.specs.declared.State.{State}
 use Rattle.jobs.specs.declared.Tasks.{Tasks}
 use Rattle.dispatch.specs.declared.Ticked.{Ticked}

@@ -18,12 +18,10 @@ use Rattle.plans.specs.declared.Plan.{Plan}
 use Rattle.std.specs.Option.{option_eq}
 use Rattle.tasks.specs.contracts.TaskNoPartialEq.TheImpl.{eq-value}
 use Rattle.tasks.specs.declared.TaskNo.{TaskNo}
-use Rattle.jobs.specs.Jobs.{no_job, no_run, is_active, once_released, names}
+use Rattle.jobs.specs.Jobs.{no_job, no_run, is_active, once_released, names, Runner, Idle, Runs}
 use Rattle.dispatch.specs.States.{job_of, last_of}
 use Rattle.dispatch.specs.Rules.{aged_job, preempted}
-use Rattle.jobs.specs.Jobs.{Runner}
 use Rattle.jobs.specs.declared.Job.{Job}
-use Rattle.jobs.specs.Jobs.{Idle, Runs}
 use Rattle.dispatch.specs.declared.State.{State}
 
 -- rule 2, which reads the tasks of a plan alone

@@ -8,14 +8,12 @@ use Rattle.tasks.proofs.Below.{all_each}
 use Rattle.tasks.proofs.Bools.{both}
 use Rattle.tasks.proofs.Padded.{padded_length, padded_in, padded_out}
 use Rattle.plans.specs.declared.Plan.{Plan}
-use Rattle.jobs.specs.Jobs.{no_job, no_run, names}
+use Rattle.jobs.specs.Jobs.{no_job, no_run, names, Runner, Idle}
 use Rattle.dispatch.specs.States.{job_of, last_of, well_made}
 use Rattle.dispatch.specs.Rules.{each_job, finished_job, finish, marked_job, mark_late, released_job, release, piece_at, highest, chosen, runs_now, ran_job, run, count_preempted, aged_job, age}
 use Rattle.dispatch.specs.Sound.{AtPieces, Filled}
 use Rattle.jobs.specs.WellMade.{job_well_made}
-use Rattle.jobs.specs.Jobs.{Runner}
 use Rattle.jobs.specs.declared.Job.{Job}
-use Rattle.jobs.specs.Jobs.{Idle}
 use Rattle.dispatch.specs.declared.State.{State}
 use Rattle.jobs.specs.declared.Tasks.{Tasks}
 use Rattle.dispatch.proofs.Checked.{Good}

@@ -1,8 +1,7 @@
 -- The rules in their order, and when the plan or the state is refused.
 use Rattle.std.specs.Prelude.{cond}
 use Rattle.tasks.specs.Tables.{and_then}
-use Rattle.tasks.specs.Answers.{Answer}
-use Rattle.tasks.specs.Answers.{Accepted, Refused}
+use Rattle.tasks.specs.Answers.{Answer, Accepted, Refused}
 use Rattle.tasks.specs.declared.Refusal.TheVariants.{NotWellMade}
 use Rattle.plans.specs.Shape.{checked_plan}
 use Rattle.plans.specs.declared.Plan.{Plan}

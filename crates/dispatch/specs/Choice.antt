@@ -4,11 +4,10 @@ use Rattle.tasks.specs.Below.{padded}
 use Rattle.plans.specs.Pieces.{no_piece, task_of, piece_of}
 use Rattle.plans.specs.Shape.{is_last}
 use Rattle.plans.specs.declared.Plan.{Plan}
-use Rattle.jobs.specs.Jobs.{is_active}
+use Rattle.jobs.specs.Jobs.{is_active, Runner}
 use Rattle.dispatch.specs.States.{job_of}
 use Rattle.dispatch.specs.Rules.{piece_at, highest}
 use Rattle.dispatch.specs.Sound.{AtPieces}
-use Rattle.jobs.specs.Jobs.{Runner}
 use Rattle.dispatch.specs.declared.Stand.{Stand}
 use Rattle.dispatch.specs.declared.State.{State}
 

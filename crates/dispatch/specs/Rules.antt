@@ -8,13 +8,11 @@ use Rattle.plans.specs.Rank.{above}
 use Rattle.plans.specs.Shape.{is_last}
 use Rattle.plans.specs.declared.Piece.{Piece}
 use Rattle.plans.specs.declared.Plan.{Plan}
-use Rattle.jobs.specs.Jobs.{no_job, no_run, by_runner, is_active, once_released, names}
+use Rattle.jobs.specs.Jobs.{no_job, no_run, by_runner, is_active, once_released, names, Runner, Idle, Runs}
 use Rattle.dispatch.specs.States.{job_of, last_of}
 use Rattle.jobs.specs.Sets.{member}
-use Rattle.jobs.specs.Jobs.{Runner}
 use Rattle.jobs.specs.declared.Job.{Job}
 use Rattle.jobs.specs.declared.Phase.TheVariants.{Active, Ended}
-use Rattle.jobs.specs.Jobs.{Idle, Runs}
 use Rattle.dispatch.specs.declared.State.{State}
 use Rattle.jobs.specs.declared.Tasks.{Tasks}
 

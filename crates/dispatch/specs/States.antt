@@ -1,10 +1,8 @@
 -- The state's jobs and cores by their number, the fresh state, a well made state, and two states that are the same.
 use Rattle.std.specs.Prelude.{◌≡◌, Bool, ◌&&◌, ℕ, ◌≤◌, ◌<◌, get_or, replicate}
 use Rattle.plans.specs.declared.Plan.{Plan}
-use Rattle.jobs.specs.Jobs.{no_job, no_run}
+use Rattle.jobs.specs.Jobs.{no_job, no_run, Runner, Idle}
 use Rattle.jobs.specs.declared.Job.{Job}
-use Rattle.jobs.specs.Jobs.{Runner}
-use Rattle.jobs.specs.Jobs.{Idle}
 use Rattle.jobs.specs.WellMade.{jobs_well_made, cores_well_made}
 use Rattle.dispatch.specs.declared.State.{State}
 

@@ -1,8 +1,7 @@
 -- One tick: the rules in their order, or a refusal.
 use Rattle.std.specs.Prelude.{replicate}
 use Rattle.tasks.specs.Tables.{and_then}
-use Rattle.tasks.specs.Answers.{Answer}
-use Rattle.tasks.specs.Answers.{Accepted, Refused}
+use Rattle.tasks.specs.Answers.{Answer, Accepted, Refused}
 use Rattle.plans.specs.declared.Plan.{Plan}
 use Rattle.jobs.specs.Jobs.{no_run}
 use Rattle.jobs.specs.declared.Tasks.{Tasks}

@@ -21,7 +21,7 @@ use plans::{NO_PIECE, Piece, Plan};
 use tasks::{Refusal, Task, TaskNo};
 
 // What a tick answers, what runs on each core in it, and the next state. On a refusal nothing runs and the state is the one given.
-// Fields and no `Result`: of a refusal too it says what runs and the state, from which the runs of `promise` go on.
+// A struct and no `Result`: a refused tick too hands back what runs, which is nothing, and the state given, from which the requests after it go on (`refused` in specs/Tick.antt, `after` in promise).
 #[derive(Clone, Copy)]
 pub struct Ticked {
     pub answer: Result<(), Refusal>,
@@ -86,23 +86,20 @@ pub struct State {
     pub preemptions: u32,
 }
 
-// `Filled` stands in the clauses of five rules: a struct that carried it would carry the count too, and each rule's clause would tell both.
+// `Filled`, `Sound` and `count ≤ 64` stand in the clauses of several rules: the state that `tick` is given need not have them, so a type with them would be a second state.
 impl State {
     // The state after the rules, in their order.
     fn next(self, plan: Plan, finished: Tasks, released: Tasks) -> State
         requires { (checked_plan plan ≡ Accepted) × (well_made plan self ≡ true) }
         ensures { result ≡ next_state plan finished released self }
     {
-        let tasks = plan.tasks;
         let after = self.finish(plan.count, finished);
-        let jobs = after.jobs;
-        let last = after.last;
         after
-            .mark_late(plan.count, tasks)
+            .mark_late(plan.count, plan.tasks)
             .release(plan.count, first_pieces(plan), released)
             .run(plan)
-            .count_preempted(plan.cores, jobs, last)
-            .age(plan.count, tasks)
+            .count_preempted(plan.cores, after.jobs, after.last)
+            .age(plan.count, plan.tasks)
     }
 
     // Rule 1: a finished task ends its job.
@@ -244,10 +241,8 @@ fn ended_job(job: Job) -> Job
 {
     Job {
         phase: Phase::Ended,
-        late: false,
-        piece: 0,
         age: job.age,
-        ran: 0,
+        ..NO_JOB
     }
 }
 
@@ -258,10 +253,8 @@ fn released_job(job: Job, released: bool, first: u8) -> Job
     if released {
         Job {
             phase: Phase::Active,
-            late: false,
             piece: first,
-            age: 0,
-            ran: 0,
+            ..NO_JOB
         }
     } else {
         job

@@ -4,8 +4,7 @@ use Rattle.std.proofs.Math.Option.{Option, none, some}
 use Rattle.tasks.specs.Below.{tabulate}
 use Rattle.tasks.specs.Refusals.{Told, place, task, given, needed, nothing, number, tells}
 use Rattle.tasks.specs.Tables.{no_task, task_no, checked_table}
-use Rattle.tasks.specs.Answers.{Answer}
-use Rattle.tasks.specs.Answers.{Accepted, Refused}
+use Rattle.tasks.specs.Answers.{Answer, Accepted, Refused}
 use Rattle.tasks.specs.declared.Refusal.{Refusal}
 use Rattle.tasks.specs.declared.Table.{Table}
 use Rattle.tasks.specs.declared.Task.{Task}
@@ -17,11 +16,9 @@ use Rattle.plans.specs.declared.Plan.{Plan}
 use Rattle.bounds.specs.Bound.{local_deadline, bound}
 use Rattle.planner.specs.Layout.{planned}
 use Rattle.planner.specs.Limit.{allowance}
-use Rattle.jobs.specs.Jobs.{no_job, no_run, by_runner}
-use Rattle.jobs.specs.Jobs.{Runner}
+use Rattle.jobs.specs.Jobs.{no_job, no_run, by_runner, Runner, Runs}
 use Rattle.jobs.specs.declared.Job.{Job}
 use Rattle.jobs.specs.declared.Phase.TheVariants.{Active}
-use Rattle.jobs.specs.Jobs.{Runs}
 use Rattle.dispatch.specs.States.{job_of, fresh_state}
 use Rattle.fullrate.specs.Allowed.{no_tasks, allowed_set}
 use Rattle.dispatch.specs.Tick.{tick}

@@ -14,8 +14,7 @@ use Rattle.tasks.proofs.Answers.{accepted_not}
 use Rattle.tasks.proofs.Bools.{clash, not_first, not_second}
 use Rattle.tasks.specs.Places.{place_at}
 use Rattle.tasks.specs.Tables.{and_then, checked_tasks}
-use Rattle.tasks.specs.Answers.{Answer}
-use Rattle.tasks.specs.Answers.{Accepted, Refused}
+use Rattle.tasks.specs.Answers.{Answer, Accepted, Refused}
 use Rattle.tasks.specs.declared.Refusal.{Refusal}
 use Rattle.tasks.specs.declared.Refusal.TheVariants.{TasksAt, NoPlanShape}
 use Rattle.tasks.specs.declared.Task.{Task}

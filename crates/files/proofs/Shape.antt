@@ -11,8 +11,7 @@ use Rattle.tasks.proofs.Answers.{accepted_not, refused_is, both_accepted, met}
 use Rattle.tasks.specs.Places.{place_at}
 use Rattle.tasks.specs.Refusals.{nothing, number, Refuses}
 use Rattle.tasks.specs.Tables.{and_then}
-use Rattle.tasks.specs.Answers.{Answer}
-use Rattle.tasks.specs.Answers.{Accepted, Refused}
+use Rattle.tasks.specs.Answers.{Answer, Accepted, Refused}
 use Rattle.tasks.specs.declared.Refusal.{Refusal}
 use Rattle.tasks.specs.declared.Refusal.TheVariants.{TasksAt, NoPlanShape}
 use Rattle.files.specs.Files.{plan_read}

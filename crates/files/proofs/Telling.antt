@@ -9,8 +9,7 @@ use lib.ListN.{length, get_or}
 use Rattle.tasks.specs.Places.{place_at}
 use Rattle.tasks.specs.Refusals.{place, nothing, number, tells, Refuses}
 use Rattle.tasks.specs.Tables.{cores_fit, values_fit}
-use Rattle.tasks.specs.Answers.{Answer}
-use Rattle.tasks.specs.Answers.{Refused}
+use Rattle.tasks.specs.Answers.{Answer, Refused}
 use Rattle.tasks.specs.declared.Refusal.{Refusal}
 use Rattle.tasks.specs.declared.Refusal.TheVariants.{CutShort, WrongTag, WrongLength, CoresAt, CoresGiven, ValuesAt, ValuesOf, TasksAt, TasksGiven, NotPlaced, NoPlanShape, NotWellMade, NotRun, TooSoon, StillActive, BufferShort}
 use Rattle.files.specs.Grammar.{number2, length_for, refusal, Before, tag_of, task_of_field, in_place, values_fault, fault}

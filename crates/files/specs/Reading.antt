@@ -3,8 +3,7 @@ use Rattle.std.specs.Prelude.{Bool, false, not, ◌||◌, cond, ℕ, ltb, eqb, R
 use Rattle.tasks.specs.Below.{padded}
 use Rattle.tasks.specs.Places.{place_at}
 use Rattle.tasks.specs.Tables.{no_task, checked_tasks, and_then}
-use Rattle.tasks.specs.Answers.{Answer}
-use Rattle.tasks.specs.Answers.{Accepted, Refused}
+use Rattle.tasks.specs.Answers.{Answer, Accepted, Refused}
 use Rattle.tasks.specs.declared.Refusal.{Refusal}
 use Rattle.tasks.specs.declared.Table.{Table}
 use Rattle.tasks.specs.declared.Refusal.TheVariants.{WrongTag, NoPlanShape}

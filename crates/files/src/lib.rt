@@ -25,7 +25,7 @@ pub struct Field {
     pub end: usize,
     // some piece was a 129th or had a kind above 1
     pub misshapen: bool,
-    // the first `count` of `bytes` are those of the field that were read so far
+    // the first `count` of `bytes` are those of the field that were read so far; memory is fixed, and `hold` speaks of any count
     pub count: usize,
     pub bytes: [u8; 15],
 }
@@ -338,6 +338,8 @@ fn begun(default: Default, pieces: bool) -> Reader
         plan: empty_plan(default.cores()),
     }
 }
+
+// Two names over one `begun`, and so below for a whole file: callers and the edits tell a table file from a plan file by them.
 
 // Begins to read a table file, with this default.
 pub fn start_table(default: Default) -> Reader

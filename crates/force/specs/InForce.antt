@@ -1,8 +1,7 @@
 -- Table in force: the machine's own table if it is a good table file, otherwise the shipped one if that is good.
 use Rattle.std.specs.Prelude.{cond, ◌&&◌, List, ◌≡◌, ℕ, ◌+◌, ◌-◌, leb, eqb, length, take, drop, get_or, Result, Ok, Err}
 use Rattle.std.specs.Borrow.{Bor}
-use Rattle.tasks.specs.Answers.{Answer}
-use Rattle.tasks.specs.Answers.{Accepted, Refused}
+use Rattle.tasks.specs.Answers.{Answer, Accepted, Refused}
 use Rattle.tasks.specs.declared.Refusal.{Refusal}
 use Rattle.tasks.specs.declared.Table.{Table}
 use Rattle.files.specs.Files.{table_read}

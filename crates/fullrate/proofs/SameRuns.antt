@@ -1,8 +1,7 @@
 -- Plans that agree up to their counts have one run at full rate: what stands past a count is not read.
 use mathlib.Core.Path.{◌≡◌, refl, ap, ◌∙◌}
 use Prim.Native.Nat.{ℕ, zero, suc}
-use Rattle.tasks.specs.Answers.{Answer}
-use Rattle.tasks.specs.Answers.{Accepted, Refused}
+use Rattle.tasks.specs.Answers.{Answer, Accepted, Refused}
 use Rattle.plans.specs.Pieces.{SamePlan}
 use Rattle.plans.specs.declared.Plan.{Plan}
 use Rattle.jobs.specs.declared.Tasks.{Tasks}

@@ -2,9 +2,8 @@
 use Rattle.std.specs.Prelude.{Bool, cond, List, ℕ, zero, suc, min, max, get_or, replicate}
 use Rattle.tasks.specs.Below.{any, padded}
 use Rattle.plans.specs.declared.Plan.{Plan}
-use Rattle.jobs.specs.Jobs.{names, no_run}
+use Rattle.jobs.specs.Jobs.{names, no_run, Runner}
 use Rattle.dispatch.specs.States.{job_of, fresh_state}
-use Rattle.jobs.specs.Jobs.{Runner}
 use Rattle.dispatch.specs.declared.State.{State}
 use Rattle.dispatch.specs.declared.Ticked.{Ticked}
 use Rattle.fullrate.specs.FullRate.{full_tick}

@@ -4,22 +4,17 @@
 ghost use Rattle.std.specs.Prelude.{◌≡◌, true, false, eqb};
 ghost use Rattle.jobs.specs.Jobs.{by_phase};
 ghost use Rattle.fullrate.specs.Allowed.{allowed_set};
+ghost use Rattle.fullrate.specs.FullRate.{full_tick};
 ghost use Rattle.fullrate.specs.Watched.{ran_in, watched};
 ghost use Rattle.fullrate.specs.Watching.{saw, watched_from};
 
 use board::Ran;
-use dispatch::State;
-use jobs::{Job, Phase, Tasks};
+use dispatch::{State, Ticked};
+use jobs::{Job, NO_TASKS, Phase, Tasks};
 use plans::Plan;
 use tasks::{Task, TaskNo};
 
 // ---- The tasks that may be released.
-
-// No task at all.
-const NO_TASKS: Tasks = Tasks {
-    members: [TaskNo(0); 64],
-    count: 0,
-};
 
 // Rule 3: ended or never released, and in the first case of age p.
 fn may_be_released(task: Task, job: Job) -> bool
@@ -44,6 +39,13 @@ pub fn all_allowed(plan: Plan, state: State) -> Tasks
         }
     }
     set
+}
+
+// One tick with every task released that may be, and no finishes.
+pub fn full_tick(plan: Plan, state: State) -> Ticked
+    ensures { result ≡ full_tick plan state }
+{
+    dispatch::tick(plan, state, NO_TASKS, all_allowed(plan, state))
 }
 
 // ---- Runs, and the longest response seen.

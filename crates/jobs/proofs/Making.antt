@@ -18,11 +18,9 @@ use Rattle.tasks.proofs.Bools.{clash, either, not_second, and_true}
 use Rattle.plans.specs.Pieces.{no_piece, task_of, piece_of}
 use Rattle.plans.specs.declared.Piece.{Piece}
 use Rattle.plans.specs.declared.Plan.{Plan}
-use Rattle.jobs.specs.Jobs.{no_job, no_run, once_released, names}
-use Rattle.jobs.specs.Jobs.{Runner}
+use Rattle.jobs.specs.Jobs.{no_job, no_run, once_released, names, Runner, Idle, Runs}
 use Rattle.jobs.specs.declared.Job.{Job}
 use Rattle.jobs.specs.declared.Phase.TheVariants.{Never, Active, Ended}
-use Rattle.jobs.specs.Jobs.{Idle, Runs}
 use Rattle.jobs.specs.WellMade.{piece_exists, at_no_piece, job_well_made, jobs_well_made, core_well_made, cores_well_made}
 
 -- a count above a size reads as that size, where all past it pass

@@ -3,8 +3,7 @@ use Rattle.std.specs.Prelude.{Bool, true, not, ◌&&◌, List, ℕ, leb, ltb, eq
 use Rattle.tasks.specs.Below.{all, any}
 use Rattle.plans.specs.Pieces.{task_of, piece_of}
 use Rattle.plans.specs.declared.Plan.{Plan}
-use Rattle.jobs.specs.Jobs.{no_job, no_run, by_phase, by_runner, once_released, names}
-use Rattle.jobs.specs.Jobs.{Runner}
+use Rattle.jobs.specs.Jobs.{no_job, no_run, by_phase, by_runner, once_released, names, Runner}
 use Rattle.jobs.specs.declared.Job.{Job}
 
 -- once released, ages are at least 1 and at most p

@@ -37,12 +37,18 @@ pub const NO_JOB: Job = Job {
     ran: 0,
 };
 
-// A set of tasks: order and repeats mean nothing, and a count above 64 reads as 64.
+// A set of tasks: order and repeats mean nothing, and a count above 64 reads as 64, as `member` says of any count.
 #[derive(Clone, Copy)]
 pub struct Tasks {
     pub members: [TaskNo; 64],
     pub count: usize,
 }
+
+// No task at all.
+pub const NO_TASKS: Tasks = Tasks {
+    members: [TaskNo(0); 64],
+    count: 0,
+};
 
 impl Job {
     // Is the job active?

@@ -6,8 +6,7 @@ use Prim.Native.Nat.{ℕ, ◌<◌}
 use native.Mathlib.Decide.{dec_lt}
 use native.Mathlib.Omega.{arith}
 use Rattle.tasks.specs.Tables.{SameTable}
-use Rattle.tasks.specs.Answers.{Answer}
-use Rattle.tasks.specs.Answers.{Accepted, Refused}
+use Rattle.tasks.specs.Answers.{Answer, Accepted, Refused}
 use Rattle.tasks.specs.declared.Table.{Table}
 use Rattle.tasks.proofs.Below.{sum_same}
 use Rattle.bounds.specs.Asking.{bound_asked}

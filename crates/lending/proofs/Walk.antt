@@ -7,7 +7,7 @@ use Prim.Native.Nat.{ℕ, zero, suc, ◌+◌, ◌<◌, ◌≤◌, ◌^◌}
 use native.Mathlib.Nat.{add-zero, zero-add, lt_irrefl}
 use native.Mathlib.Omega.{arith}
 use lib.Dec.{ltb, lt→ltb, ltb→lt, lit<}
-use lib.ListN.{length}
+use lib.ListN.{length, get_or}
 use lib.WfN.{lt-wf_rel}
 use seplogic.Ra.Ura.{Ura}
 use base.Fraction.{full_share}
@@ -47,7 +47,6 @@ use Rattle.plans.specs.contracts.Piece as Z
 use Rattle.plans.proofs.Piece.TheLaws as Z'
 use Rattle.board.proofs.Walk.{Held, struct, passes, answers, beside, turned, still, word, one_more, holds, fails}
 use Rattle.plans.specs.Pieces.{no_piece}
-use lib.ListN.{get_or}
 
 -- ---- the plain types that the walks are about
 abbrev pub tables : Held

@@ -2,8 +2,7 @@
 use Rattle.std.specs.Prelude.{cond, List, ℕ, length, ltb, get_or}
 use Rattle.tasks.specs.Below.{padded}
 use Rattle.tasks.specs.Tables.{and_then}
-use Rattle.tasks.specs.Answers.{Answer}
-use Rattle.tasks.specs.Answers.{Accepted, Refused}
+use Rattle.tasks.specs.Answers.{Answer, Accepted, Refused}
 use Rattle.tasks.specs.declared.Refusal.TheVariants.{NoPlanShape}
 use Rattle.tasks.specs.declared.Table.{Table}
 use Rattle.plans.specs.Pieces.{no_piece}

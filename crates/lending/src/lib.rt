@@ -9,7 +9,7 @@ use bounds::Bounding;
 use plans::{NO_PIECE, Piece, Plan};
 use tasks::{Refusal, Table};
 
-// A table and a lent list as a plan record. Of a list that is longer than a record's it has the first pieces only, but that length, so that it has not the shape.
+// A table and a lent list as a plan record. A list longer than a record holds keeps its length, with its first 128 pieces, so it has not the shape.
 fn recorded(table: Table, pieces: &[Piece]) -> Plan
     ensures { result ≡ recorded table pieces.now }
 {
@@ -38,7 +38,7 @@ fn asked(plan: Plan, q: usize) -> Result<(), Refusal>
     }
 }
 
-// The bound and margin of piece q, the pieces being read from a lent list. Any table, any list and any place at all may be given: 4, 6, 5 or 8, and 8 for a piece past the list.
+// The bound and margin of piece q, the pieces being read from a lent list. Not by `ask_bound`: a bound is added up over the lent list itself. Any table, any list and any place at all may be given: 4, 6, 5 or 8, and 8 for a piece past the list.
 pub fn lent_bound(table: Table, pieces: &[Piece], q: usize) -> Result<Bounding, Refusal>
     ensures { result ≡ bound_lent table pieces.now q }
 {

@@ -7,8 +7,7 @@ use Rattle.tasks.proofs.Padded.{padded_out}
 use Rattle.tasks.proofs.Tables.{good_accepted}
 use Rattle.tasks.specs.Tables.{no_task, checked_table}
 use Rattle.tasks.specs.Tables as table
-use Rattle.tasks.specs.Answers.{Answer}
-use Rattle.tasks.specs.Answers.{Accepted, Refused}
+use Rattle.tasks.specs.Answers.{Answer, Accepted, Refused}
 use Rattle.tasks.specs.declared.Table.{Table}
 use Rattle.std.specs.Prelude.{Ok}
 use Rattle.planner.proofs.Placing.{refused_not, plan_is}

@@ -10,8 +10,7 @@ use Rattle.tasks.specs.Below.{sum}
 use Rattle.tasks.specs.Refusals.{task, number, Refuses}
 use Rattle.tasks.specs.Tables.{task_no, checked_table}
 use Rattle.tasks.specs.Tables as table
-use Rattle.tasks.specs.Answers.{Answer}
-use Rattle.tasks.specs.Answers.{Accepted, Refused}
+use Rattle.tasks.specs.Answers.{Answer, Accepted, Refused}
 use Rattle.tasks.specs.declared.Refusal.{Refusal}
 use Rattle.tasks.specs.declared.Refusal.TheVariants.{NotPlaced}
 use Rattle.tasks.specs.declared.Table.{Table}

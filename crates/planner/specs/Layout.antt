@@ -3,8 +3,7 @@ use Rattle.std.specs.Prelude.{false, cond, ℕ, zero, suc, replicate, Option, So
 use Rattle.tasks.specs.Below.{any, first, padded}
 use Rattle.tasks.specs.Tables.{no_task, task_no, checked_table}
 use Rattle.tasks.specs.Tables as table
-use Rattle.tasks.specs.Answers.{Answer}
-use Rattle.tasks.specs.Answers.{Accepted, Refused}
+use Rattle.tasks.specs.Answers.{Answer, Accepted, Refused}
 use Rattle.tasks.specs.declared.Refusal.{Refusal}
 use Rattle.tasks.specs.declared.Refusal.TheVariants.{NotPlaced}
 use Rattle.tasks.specs.declared.Table.{Table}
@@ -63,7 +62,7 @@ if_good Accepted p = p
 unfoldable pub planned : Table → Result Plan Refusal
 planned t = if_good (checked_table t) (outcome (lay_first (start t) t.count))
 
--- what is answered, whatever the plan
+-- the answer without the plan
 abbrev pub answered : Result Plan Refusal → Answer
 answered (Ok p) = Accepted
 answered (Err r) = Refused r

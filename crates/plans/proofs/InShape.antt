@@ -13,8 +13,7 @@ use Rattle.tasks.proofs.Bools.{both}
 use Rattle.tasks.specs.Below.{any, first}
 use Rattle.tasks.proofs.Tables.{GoodTable, accepted_good, good_accepted}
 use Rattle.tasks.specs.Tables.{checked_tasks}
-use Rattle.tasks.specs.Answers.{Answer}
-use Rattle.tasks.specs.Answers.{Accepted, Refused}
+use Rattle.tasks.specs.Answers.{Answer, Accepted, Refused}
 use Rattle.tasks.specs.declared.Task.{Task}
 use Rattle.tasks.proofs.Answers.{accepted_not}
 use Rattle.plans.proofs.Shaped.{Fits, fits_say, follows_says, tasks_refused, shape_refused, shape_accepted}

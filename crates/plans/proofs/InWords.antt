@@ -8,8 +8,7 @@ use Rattle.tasks.proofs.Refusals.{refuses_make}
 use Rattle.tasks.proofs.Tables.{GoodTable, accepted_good, good_accepted, table_number}
 use Rattle.tasks.specs.Refusals.{nothing, number, Refuses}
 use Rattle.tasks.specs.Tables.{checked_tasks}
-use Rattle.tasks.specs.Answers.{Answer}
-use Rattle.tasks.specs.Answers.{Accepted, Refused}
+use Rattle.tasks.specs.Answers.{Answer, Accepted, Refused}
 use Rattle.tasks.specs.declared.Refusal.TheVariants.{NoPlanShape}
 use Rattle.tasks.specs.declared.Task.{Task}
 use Rattle.plans.proofs.FromWords.{from_words}

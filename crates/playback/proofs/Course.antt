@@ -6,14 +6,14 @@ use Prim.Native.Nat.{ℕ, zero, suc, ◌+◌, ◌-◌, ◌≤◌, ◌<◌, min}
 use native.Mathlib.Nat.{zero-add}
 use native.Mathlib.Omega.{arith}
 use lib.Dec.{ltb}
-use lib.ListN.{length, get_or, take, drop, replicate, length-take, length-drop, length-append, get_or-append}
-use lib.Seq.{drop-drop, ext_get_or, get_or-take, get_or-drop, get_or-append_right}
+use lib.ListN.{length, get_or, take, drop, replicate, length-drop, length-append, get_or-append}
+use lib.Seq.{drop-drop, get_or-drop, get_or-append_right}
 use borrow.Author.Tests.{lt-ltb, le-ltb}
 use Rattle.tasks.specs.Below.{padded}
 use Rattle.tasks.specs.Places.{place_at, further}
-use Rattle.tasks.proofs.Padded.{padded_is, padded_same}
+use Rattle.tasks.proofs.Padded.{padded_is}
 use Rattle.tasks.proofs.Tabulate.{replicate_at}
-use Rattle.std.proofs.lemmas.List.{length-replicate}
+use Rattle.std.proofs.lemmas.List.{length-replicate, take_rest}
 use Rattle.tasks.specs.Answers.{Accepted, Refused}
 use Rattle.tasks.specs.declared.Refusal.{Refusal}
 use Rattle.plans.specs.declared.Plan.{Plan}
@@ -32,16 +32,6 @@ use Rattle.playback.specs.declared.Player.{Player}
 use Rattle.playback.specs.declared.Played.{Played}
 use Rattle.playback.specs.declared.Reached.{Reached}
 use Rattle.playback.proofs.Good.{Good, accepted_good, size_is, refused_as, accepted_as}
-
--- a part of the bytes, as the code lends it
-part_is : (f t : ℕ) (l : List ℕ) → f ≤ t → take (t - f) (drop f l) ≡ drop f (take t l)
-part_is f t l h = ext_get_or 0 _ _ (omega (arith, length-take (t - f) (drop f l), length-drop f l, length-drop f (take t l), length-take t l)) (λ i b. at i b)
-  where
-    at : (i : ℕ) → i < length (take (t - f) (drop f l)) → get_or (take (t - f) (drop f l)) i 0 ≡ get_or (drop f (take t l)) i 0
-    at i b =
-        let near : i < t - f = omega (arith, length-take (t - f) (drop f l)) in
-        let far : f + i < t = omega arith in
-        get_or-take (t - f) (drop f l) i 0 near ∙ get_or-drop f l i 0 ∙ sym (get_or-take t l (f + i) 0 far) ∙ sym (get_or-drop f (take t l) i 0)
 
 -- ---- one request more, or none
 
@@ -66,24 +56,24 @@ module _ (p : Plan) (room : ℕ) (z : Standing) where
 
 -- ---- the turns
 
--- some requests of the first bytes are played: what is still to be played comes to the whole
-pub record Playing (p : Plan) (bytes : List ℕ) (count : ℕ) (t : Text) (whole : Standing) (u : Text) (state : State) (at : ℕ) : Type 0 where
+-- some requests of the bytes are played: what is still to be played comes to the whole
+pub record Playing (p : Plan) (bytes : List ℕ) (t : Text) (whole : Standing) (u : Text) (state : State) (at : ℕ) : Type 0 where
   pub z : Standing
   pub fuel : ℕ
   pub begins : t.end ≡ 0
   pub enough : length z.left ≤ fuel
   pub same : played_in fuel p (length t.bytes.now) z ≡ whole
   pub states : state ≡ z.state
-  pub within : at ≤ count
-  pub lefts : drop at (take count bytes) ≡ z.left
+  pub within : at ≤ length bytes
+  pub lefts : drop at bytes ≡ z.left
   pub lines : Put t (length z.said) z.said u
 
-pub playing_none : (p : Plan) (bytes : List ℕ) (count : ℕ) (t : Text) (s : State) → t.end ≡ 0 → Playing p bytes count t (played_in count p (length t.bytes.now) (beginning s (take count bytes))) t s 0
-playing_none p bytes count t s e = record {
-  z = beginning s (take count bytes);
-  fuel = count;
+pub playing_none : (p : Plan) (bytes : List ℕ) (t : Text) (s : State) → t.end ≡ 0 → Playing p bytes t (played_in (length bytes) p (length t.bytes.now) (beginning s bytes)) t s 0
+playing_none p bytes t s e = record {
+  z = beginning s bytes;
+  fuel = length bytes;
   begins = e;
-  enough = omega (arith, length-take count bytes);
+  enough = omega arith;
   same = refl;
   states = refl;
   within = omega arith;
@@ -91,14 +81,14 @@ playing_none p bytes count t s e = record {
   lines = put_none t (omega arith);
 }
 
-module _ {p : Plan} {bytes : List ℕ} {count : ℕ} {t : Text} {whole : Standing} {u : Text} {state : State} {at : ℕ} (y : Playing p bytes count t whole u state at) where
-  hand : take (count - at) (drop at bytes) ≡ y.z.left
-  hand = part_is at count bytes y.within ∙ y.lefts
+module _ {p : Plan} {bytes : List ℕ} {t : Text} {whole : Standing} {u : Text} {state : State} {at : ℕ} (y : Playing p bytes t whole u state at) where
+  hand : take (length bytes - at) (drop at bytes) ≡ y.z.left
+  hand = take_rest bytes at ∙ y.lefts
 
   room_is : u.end ≡ length y.z.said
   room_is = omega (arith, y.lines.end, y.begins)
 
-  stands : played_in y.fuel p (length t.bytes.now) y.z ≡ y.z → Comes count (take count bytes) whole t.bytes.now u.bytes.now (record { state = state; at = at; length = u.end })
+  stands : played_in y.fuel p (length t.bytes.now) y.z ≡ y.z → Comes (length bytes) bytes whole t.bytes.now u.bytes.now (record { state = state; at = at; length = u.end })
   stands e =
       let here : y.z ≡ whole = sym e ∙ y.same in
       record {
@@ -110,13 +100,13 @@ module _ {p : Plan} {bytes : List ℕ} {count : ℕ} {t : Text} {whole : Standin
       }
 
   -- no room is left, or no whole request
-  pub playing_short : length u.bytes.now < u.end + 337 → Comes count (take count bytes) whole t.bytes.now u.bytes.now (record { state = state; at = at; length = u.end })
+  pub playing_short : length u.bytes.now < u.end + 337 → Comes (length bytes) bytes whole t.bytes.now u.bytes.now (record { state = state; at = at; length = u.end })
   playing_short h = stands (played_short p (length t.bytes.now) y.z y.fuel (omega (arith, room_is, y.lines.size)))
 
-  pub playing_stuck : (r : Result ℕ Refusal) (x : Refusal) → r ≡ judged (take (count - at) (drop at bytes)) (place_at 0) → r ≡ Err x → Comes count (take count bytes) whole t.bytes.now u.bytes.now (record { state = state; at = at; length = u.end })
+  pub playing_stuck : (r : Result ℕ Refusal) (x : Refusal) → r ≡ judged (take (length bytes - at) (drop at bytes)) (place_at 0) → r ≡ Err x → Comes (length bytes) bytes whole t.bytes.now u.bytes.now (record { state = state; at = at; length = u.end })
   playing_stuck r x e h = stands (played_stuck p (length t.bytes.now) y.z y.fuel x (ap (λ (l : List ℕ). request_answer l (place_at 0)) (sym hand) ∙ refused_as _ _ x (sym e ∙ h)))
 
-  module _ (r : Result ℕ Refusal) (n : ℕ) (read : r ≡ judged (take (count - at) (drop at bytes)) (place_at 0)) (yes : r ≡ Ok n) where
+  module _ (r : Result ℕ Refusal) (n : ℕ) (read : r ≡ judged (take (length bytes - at) (drop at bytes)) (place_at 0)) (yes : r ≡ Ok n) where
     accepted : request_answer y.z.left (place_at 0) ≡ Accepted
     accepted = ap (λ (l : List ℕ). request_answer l (place_at 0)) (sym hand) ∙ (accepted_as _ _ n (sym read ∙ yes)).0
 
@@ -126,19 +116,19 @@ module _ {p : Plan} {bytes : List ℕ} {count : ℕ} {t : Text} {whole : Standin
     size : n ≡ request_size y.z.left
     size = (accepted_as _ _ n (sym read ∙ yes)).1 ∙ ap request_size hand
 
-    long : length y.z.left ≤ count - at
-    long = omega (arith, ap length y.lefts, length-drop at (take count bytes), length-take count bytes)
+    long : length y.z.left ≤ length bytes - at
+    long = omega (arith, ap length y.lefts, length-drop at bytes)
 
     -- the next request is within the bytes, and takes some
-    pub playing_within : (at + n ≤ count) × (0 < n)
+    pub playing_within : (at + n ≤ length bytes) × (0 < n)
     playing_within = (omega (arith, size, long, good.whole, y.within), omega (arith, size, size_is y.z.left))
 
-    pub playing_next : (made : Ticked) → made ≡ tick_asked p state (take (count - at) (drop at bytes)) → u.end + 337 ≤ length u.bytes.now → {v : Text} → Puts ran_most (ticked_text p.cores made) u v → Playing p bytes count t whole v made.state (at + n)
+    pub playing_next : (made : Ticked) → made ≡ tick_asked p state (take (length bytes - at) (drop at bytes)) → u.end + 337 ≤ length u.bytes.now → {v : Text} → Puts ran_most (ticked_text p.cores made) u v → Playing p bytes t whole v made.state (at + n)
     unfolding next
     playing_next made e room {v} h = go y.fuel y.enough y.same
       where
         tick_same : made ≡ tick_asked p y.z.state y.z.left
-        tick_same = e ∙ ap (λ (s : State). tick_asked p s (take (count - at) (drop at bytes))) y.states ∙ ap (tick_asked p y.z.state) hand
+        tick_same = e ∙ ap (λ (s : State). tick_asked p s (take (length bytes - at) (drop at bytes))) y.states ∙ ap (tick_asked p y.z.state) hand
 
         line : List ℕ
         line = ticked_text p.cores (tick_asked p y.z.state y.z.left)
@@ -146,7 +136,7 @@ module _ {p : Plan} {bytes : List ℕ} {count : ℕ} {t : Text} {whole : Standin
         put : Put t (length (y.z.said ++ line)) (y.z.said ++ line) v
         put = put_tight (put_next y.lines (length y.z.said + 337) 337 line (ticked_few p.cores (tick_asked p y.z.state y.z.left)) (rw tick_same at h) (omega arith) (omega (arith, room_is, y.begins, y.lines.size)))
 
-        go : (k : ℕ) → length y.z.left ≤ k → played_in k p (length t.bytes.now) y.z ≡ whole → Playing p bytes count t whole v made.state (at + n)
+        go : (k : ℕ) → length y.z.left ≤ k → played_in k p (length t.bytes.now) y.z ≡ whole → Playing p bytes t whole v made.state (at + n)
         go zero l q = absurd (omega (arith, size_is y.z.left, good.whole))
         go (suc k) l q = record {
           z = next p y.z;
@@ -156,7 +146,7 @@ module _ {p : Plan} {bytes : List ℕ} {count : ℕ} {t : Text} {whole : Standin
           same = sym (played_more p (length t.bytes.now) y.z k (omega (arith, room_is, y.lines.size)) accepted) ∙ q;
           states = ap (λ (u : Ticked). u.state) tick_same;
           within = playing_within.0;
-          lefts = ap (λ (n : ℕ). drop (at + n) (take count bytes)) size ∙ sym (drop-drop (request_size y.z.left) at (take count bytes)) ∙ ap (drop (request_size y.z.left)) y.lefts;
+          lefts = ap (λ (n : ℕ). drop (at + n) bytes) size ∙ sym (drop-drop (request_size y.z.left) at bytes) ∙ ap (drop (request_size y.z.left)) y.lefts;
           lines = put;
         }
 
@@ -170,35 +160,27 @@ comes_in e h = rw e h
 past_zeros : (k i : ℕ) → get_or {A = ℕ} (drop k (replicate 4096 0)) i 0 ≡ 0
 past_zeros k i = get_or-drop k (replicate 4096 0) i 0 ∙ replicate_at 4096 (k + i) 0
 
--- the bytes from a place on, copied to the beginning of zeros
-pub left_is : (bytes moved : List ℕ) (count at : ℕ) → length bytes ≡ 4096 → count ≤ 4096 → at ≤ count → moved ≡ take (count - at) (drop at bytes)
-    → moved ++ drop (count - at) (replicate 4096 0) ≡ padded 4096 (count - at) 0 (λ i. get_or bytes (at + i) 0)
-left_is bytes moved count at full c h e =
-    let long : length moved ≡ count - at = ap length e ∙ omega (arith, length-take (count - at) (drop at bytes), length-drop at bytes) in
-    padded_is 4096 0 (count - at) _ _ (omega (arith, length-append moved (drop (count - at) (replicate 4096 0)), length-drop {A = ℕ} (count - at) (replicate 4096 0), length-replicate {A = ℕ} 4096 0))
-    (λ i l b. get_or-append moved (drop (count - at) (replicate 4096 0)) 0 i (omega (arith, long)) ∙ ap (λ (bs : List ℕ). get_or bs i 0) e ∙ get_or-take (count - at) (drop at bytes) i 0 l ∙ get_or-drop at bytes i 0)
-    (λ i l b. get_or-append_right moved (drop (count - at) (replicate 4096 0)) i 0 (omega (arith, long)) ∙ past_zeros (count - at) (i - length moved))
+-- some bytes, copied to the beginning of zeros
+pub left_is : (rest moved : List ℕ) → length rest ≤ 4096 → moved ≡ rest → moved ++ drop (length rest) (replicate 4096 0) ≡ padded 4096 (length rest) 0 (λ i. get_or rest i 0)
+left_is rest moved few e =
+    rw e (padded_is 4096 0 (length rest) _ _ (omega (arith, length-append rest (drop (length rest) (replicate 4096 0)), length-drop {A = ℕ} (length rest) (replicate 4096 0), length-replicate {A = ℕ} 4096 0))
+    (λ i l b. get_or-append rest (drop (length rest) (replicate 4096 0)) 0 i l)
+    (λ i l b. get_or-append_right rest (drop (length rest) (replicate 4096 0)) i 0 l ∙ past_zeros (length rest) (i - length rest)))
 
 -- made of what playing comes to
-abbrev made : Reached → ℕ → List ℕ → ℕ → Played
-made r c moved place = record { player = record { state = r.state; bytes = moved; count = c - r.at; place = place }; length = r.length }
+abbrev made : Reached → List ℕ → List ℕ → ℕ → Played
+made r rest moved place = record { player = record { state = r.state; bytes = moved; count = length rest; place = place }; length = r.length }
 
 -- what is left, as the code moves it to the beginning
-pub played_is : (p : Plan) (w : Player) (lent out : List ℕ) (c : ℕ) (r : Reached) (moved : List ℕ) (place : ℕ) → length w.bytes ≡ 4096 → c ≡ min w.count 4096
-    → Comes c (take c w.bytes) (played_in c p (length lent) (beginning w.state (take c w.bytes))) lent out r
-    → moved ≡ padded 4096 (c - r.at) 0 (λ i. get_or w.bytes (r.at + i) 0) → place ≡ further w.place r.at
-    → (made r c moved place ≡ played_on p w (length lent)) × (out ≡ lines_in (played_from p w (length lent)).said lent)
+pub played_is : (p : Plan) (w : Player) (lent out : List ℕ) (c : ℕ) (r : Reached) (rest moved : List ℕ) (place : ℕ) → c ≡ min w.count 4096 → rest ≡ drop r.at (take c w.bytes)
+    → Comes (length (take c w.bytes)) (take c w.bytes) (played_in (length (take c w.bytes)) p (length lent) (beginning w.state (take c w.bytes))) lent out r
+    → moved ≡ padded 4096 (length rest) 0 (λ i. get_or rest i 0) → place ≡ further w.place r.at
+    → (made r rest moved place ≡ played_on p w (length lent)) × (out ≡ lines_in (played_from p w (length lent)).said lent)
 unfolding played_from
-played_is p w lent out c r moved place full hc h hm hp =
-    let long : length (take c w.bytes) ≡ c = length-take c w.bytes ∙ omega arith in
-    let same : played_in c p (length lent) (beginning w.state (take c w.bytes)) ≡ played_in (length (at_hand w)) p (length lent) (beginning w.state (at_hand w)) = rw (← hc, long) in
-    go _ same (rw same at h) long
+played_is p w lent out c r rest moved place hc hr h hm hp = go _ (rw (← hc) h)
   where
-    go : (z : Standing) → played_in c p (length lent) (beginning w.state (take c w.bytes)) ≡ z → Comes c (take c w.bytes) z lent out r → length (take c w.bytes) ≡ c
-        → (made r c moved place ≡ record { player = standing w z; length = length z.said }) × (out ≡ lines_in z.said lent)
-    go z e k size =
-        let count : length z.left ≡ c - r.at = ap length (sym k.left) ∙ length-drop r.at (take c w.bytes) ∙ ap (λ (n : ℕ). n - r.at) size in
-        let used : length (take c w.bytes) - length z.left ≡ r.at = omega (arith, k.within) in
-        let entry : (i : ℕ) → i < c - r.at → get_or w.bytes (r.at + i) 0 ≡ get_or z.left i 0 = λ i l. sym (ap (λ (bs : List ℕ). get_or bs i 0) (sym k.left) ∙ get_or-drop r.at (take c w.bytes) i 0 ∙ get_or-take c w.bytes (r.at + i) 0 (omega arith)) in
-        let each : moved ≡ padded 4096 (c - r.at) 0 (λ i. get_or z.left i 0) = hm ∙ padded_same 4096 0 (c - r.at) _ _ entry in
-        (rw (← hc, used, count, k.state, each, hp, k.long), k.lines)
+    go : (z : Standing) → Comes (length (at_hand w)) (at_hand w) z lent out r → (made r rest moved place ≡ record { player = standing w z; length = length z.said }) × (out ≡ lines_in z.said lent)
+    go z k =
+        let same : rest ≡ z.left = hr ∙ ap (λ (n : ℕ). drop r.at (take n w.bytes)) hc ∙ k.left in
+        let used : length (at_hand w) - length z.left ≡ r.at = omega (arith, k.within, ap length k.left, length-drop r.at (at_hand w)) in
+        (rw (used, ← same, k.state, hm, hp, k.long), k.lines)

@@ -5,8 +5,7 @@ use native.Mathlib.Omega.{arith}
 use borrow.Author.Tests.{le-leb, lt-leb}
 use lib.ListN.{length, take, length-take}
 use Rattle.tasks.specs.Places.{place_at}
-use Rattle.tasks.specs.Answers.{Answer}
-use Rattle.tasks.specs.Answers.{Accepted}
+use Rattle.tasks.specs.Answers.{Answer, Accepted}
 use Rattle.playback.specs.Requests.{request_answer}
 use Rattle.playback.specs.Players.{held, at_hand, last_answer}
 use Rattle.playback.specs.declared.Player.{Player}

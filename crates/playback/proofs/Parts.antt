@@ -13,8 +13,7 @@ use lib.ListN.{length, get_or, take, drop, length-append, length-take, length-dr
 use lib.Seq.{drop-append-le, ext_get_or, get_or-take, take_at, drop_at, drop-drop}
 use Rattle.tasks.specs.Below.{padded}
 use Rattle.tasks.proofs.Padded.{padded_in, padded_length}
-use Rattle.tasks.specs.Answers.{Answer}
-use Rattle.tasks.specs.Answers.{Accepted, Refused}
+use Rattle.tasks.specs.Answers.{Answer, Accepted, Refused}
 use Rattle.tasks.specs.declared.Refusal.{Refusal}
 use Rattle.tasks.specs.declared.Refusal.TheVariants.{CutShort}
 use Rattle.plans.specs.declared.Plan.{Plan}

@@ -1,8 +1,7 @@
 -- A replay's player: where it starts, the bytes at hand, and what the end of the input tells of them.
 use Rattle.std.specs.Prelude.{cond, List, ℕ, min, leb, length, take, replicate}
 use Rattle.tasks.specs.Places.{place_at}
-use Rattle.tasks.specs.Answers.{Answer}
-use Rattle.tasks.specs.Answers.{Accepted}
+use Rattle.tasks.specs.Answers.{Answer, Accepted}
 use Rattle.dispatch.specs.States.{fresh_state}
 use Rattle.playback.specs.Requests.{request_answer}
 use Rattle.playback.specs.declared.Player.{Player}

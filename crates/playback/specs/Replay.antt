@@ -1,8 +1,7 @@
 -- A replay: the length of a plan file in two bytes, high first, that plan file, and then ticks to the end of the input.
 use Rattle.std.specs.Prelude.{Result, ◌≡◌, ◌⊎◌, cond, List, [], ◌++◌, ℕ, zero, suc, ◌+◌, ◌-◌, ◌*◌, ◌≤◌, ltb, leb, length, get_or, take, drop}
 use Rattle.tasks.specs.Below.{padded}
-use Rattle.tasks.specs.Answers.{Answer}
-use Rattle.tasks.specs.Answers.{Accepted, Refused}
+use Rattle.tasks.specs.Answers.{Answer, Accepted, Refused}
 use Rattle.tasks.specs.declared.Refusal.{Refusal}
 use Rattle.tasks.specs.declared.Refusal.TheVariants.{CutShort}
 use Rattle.plans.specs.declared.Plan.{Plan}

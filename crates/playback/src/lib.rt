@@ -1,7 +1,7 @@
 // Replays: ticks come as bytes, one request after another; those that are whole are made, and their lines are told.
 #![tactic(auto)]
 
-ghost use Rattle.std.specs.Prelude.{◌≡◌, ◌<◌, ◌+◌, ◌-◌, ◌≤◌, length, get_or, take};
+ghost use Rattle.std.specs.Prelude.{◌≡◌, ◌<◌, ◌+◌, ◌≤◌, length, get_or};
 ghost use Rattle.tasks.specs.Below.{padded};
 ghost use Rattle.playback.specs.Requests.{tasks_at, finished_in, released_in, judged};
 ghost use Rattle.playback.specs.Players.{start as begun, last_answer};
@@ -68,6 +68,7 @@ fn byte_at(bytes: &[u8], i: usize) -> usize
 // ---- Where a replay stands: how it begins, and what its end tells.
 
 // A replay under way: the state, the bytes at hand, which are the first `count`, and the place of the first of them in the input.
+// Memory is fixed, and `at_hand` speaks of any count.
 #[derive(Clone, Copy)]
 pub struct Player {
     pub state: State,
@@ -118,15 +119,14 @@ struct Reached {
 }
 
 // Plays the whole requests that some bytes begin with, as long as the longest line has room after the lines so far.
-fn advance(out: &mut [u8], bytes: [u8; 4096], count: usize, plan: Plan, begun: State) -> Reached
-    requires { count ≤ 4096 }
-    ensures { Comes count (take count bytes) (played_in count plan (length out.old) (beginning begun (take count bytes))) out.old out.new result }
+fn advance(out: &mut [u8], bytes: &[u8], plan: Plan, begun: State) -> Reached
+    ensures { Comes (length bytes.now) bytes.now (played_in (length bytes.now) plan (length out.old) (beginning begun bytes.now)) out.old out.new result }
 {
     let mut text = Text { bytes: out, end: 0 };
     let mut state = begun;
     let mut at = 0;
     while !text.is_short(337) {
-        let next = &bytes[at..count];
+        let next = &bytes[at..];
         let Ok(size) = judge(next, Place(0)) else {
             break;
         };
@@ -142,13 +142,13 @@ fn advance(out: &mut [u8], bytes: [u8; 4096], count: usize, plan: Plan, begun: S
     }
 }
 
-// The bytes from a place on, moved to the beginning.
-fn left(bytes: [u8; 4096], count: usize, at: usize) -> [u8; 4096]
-    requires { (at ≤ count) × (count ≤ 4096) }
-    ensures { result ≡ padded 4096 (count - at) 0 (λ i. get_or bytes (at + i) 0) }
+// The bytes that are left, moved to the beginning of an empty buffer.
+fn left(rest: &[u8]) -> [u8; 4096]
+    requires { length rest.now ≤ 4096 }
+    ensures { result ≡ padded 4096 (length rest.now) 0 (λ i. get_or rest.now i 0) }
 {
     let mut moved = [0u8; 4096];
-    moved[..count - at].copy_from_slice(&bytes[at..count]);
+    moved[..rest.len()].copy_from_slice(rest);
     moved
 }
 
@@ -163,16 +163,16 @@ pub struct Played {
 pub fn play(out: &mut [u8], player: Player, plan: Plan) -> Played
     ensures { (result ≡ played_on plan player (length out.old)) × (out.new ≡ lines_in (played_from plan player (length out.old)).said out.old) }
 {
-    let count = player.count.min(4096);
-    let reached = advance(out, player.bytes, count, plan, player.state);
-    let after = Player {
-        state: reached.state,
-        bytes: left(player.bytes, count, reached.at),
-        count: count - reached.at,
-        place: tasks::further(player.place, reached.at),
-    };
+    let hand = &player.bytes[..player.count.min(4096)];
+    let reached = advance(out, hand, plan, player.state);
+    let rest = &hand[reached.at..];
     Played {
-        player: after,
+        player: Player {
+            state: reached.state,
+            bytes: left(rest),
+            count: rest.len(),
+            place: tasks::further(player.place, reached.at),
+        },
         length: reached.length,
     }
 }

@@ -5,12 +5,11 @@ use Prim.Native.Nat.{ℕ, ◌<◌}
 use Rattle.tasks.proofs.Below.{any_each}
 use Rattle.tasks.specs.Below.{first}
 use Rattle.tasks.specs.Tables.{task_no, and_then}
-use Rattle.tasks.specs.Answers.{Answer}
-use Rattle.tasks.specs.Answers.{Accepted, Refused}
+use Rattle.tasks.specs.Answers.{Answer, Accepted, Refused}
 use Rattle.tasks.specs.declared.Refusal.{Refusal}
 use Rattle.tasks.specs.declared.Refusal.TheVariants.{NotRun, TooSoon, StillActive}
 use Rattle.tasks.specs.declared.TaskNo.{TaskNo}
-use Rattle.tasks.proofs.Answers.{accepted_not}
+use Rattle.tasks.proofs.Answers.{accepted_not, both_accepted}
 use Rattle.plans.specs.Shape.{checked_plan}
 use Rattle.plans.specs.declared.Plan.{Plan}
 use Rattle.dispatch.specs.Refusing.{not_run, too_soon, still_active, lowest, judged_sets}
@@ -20,7 +19,6 @@ use Rattle.jobs.specs.Sets.{member}
 use Rattle.dispatch.specs.States.{well_made}
 use Rattle.dispatch.specs.declared.State.{State}
 use Rattle.jobs.specs.declared.Tasks.{Tasks}
-use Rattle.tasks.proofs.Answers.{both_accepted}
 use Rattle.dispatch.proofs.CheckedTick.{Taken, taken}
 
 no_refusal : (b : Bool) (r : Refusal) (a : Answer) → cond b (Refused r) a ≡ Accepted → b ≡ false

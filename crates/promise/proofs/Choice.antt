@@ -8,11 +8,9 @@ use Rattle.tasks.proofs.Bools.{both, clash}
 use Rattle.plans.specs.Pieces.{task_of}
 use Rattle.plans.specs.Rank.{above}
 use Rattle.plans.specs.declared.Plan.{Plan}
-use Rattle.jobs.specs.Jobs.{is_active, names}
+use Rattle.jobs.specs.Jobs.{is_active, names, Runner, Idle, Runs}
 use Rattle.dispatch.specs.States.{job_of}
 use Rattle.dispatch.specs.Rules.{piece_at, stands_on, highest}
-use Rattle.jobs.specs.Jobs.{Runner}
-use Rattle.jobs.specs.Jobs.{Idle, Runs}
 use Rattle.dispatch.specs.declared.State.{State}
 use Rattle.dispatch.proofs.Highest.{idle_none, runner_stands, runner_above}
 

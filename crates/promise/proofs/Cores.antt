@@ -12,11 +12,10 @@ use Rattle.tasks.proofs.Tabulate.{replicate_at}
 use Rattle.plans.proofs.InShape.{GoodPlan, accepted_plan}
 use Rattle.plans.specs.Pieces.{piece_of}
 use Rattle.plans.specs.declared.Plan.{Plan}
-use Rattle.jobs.specs.Jobs.{no_run, is_active, names}
+use Rattle.jobs.specs.Jobs.{no_run, is_active, names, Runner}
 use Rattle.dispatch.specs.States.{job_of, last_of}
 use Rattle.dispatch.specs.Rules.{piece_at}
 use Rattle.jobs.specs.Sets.{member}
-use Rattle.jobs.specs.Jobs.{Runner}
 use Rattle.jobs.specs.declared.Job.{Job}
 use Rattle.jobs.specs.declared.Phase.{Phase}
 use Rattle.jobs.specs.declared.Phase.TheVariants.{Never, Active, Ended}

@@ -39,8 +39,7 @@ use Rattle.jobs.specs.Sets.{member}
 use Rattle.dispatch.specs.Advance.{checked, next_state}
 use Rattle.jobs.specs.WellMade.{core_well_made, job_well_made}
 use Rattle.jobs.specs.declared.Phase.TheVariants.{Ended}
-use Rattle.jobs.specs.Jobs.{Runner}
-use Rattle.jobs.specs.Jobs.{Runs}
+use Rattle.jobs.specs.Jobs.{Runner, Runs}
 use Rattle.dispatch.specs.declared.State.{State}
 use Rattle.jobs.specs.declared.Tasks.{Tasks}
 use Rattle.promise.specs.Demand3.{Due, Demand3}

@@ -16,7 +16,7 @@ use Rattle.plans.specs.Pieces.{task_of, piece_of}
 use Rattle.plans.specs.Rank.{above}
 use Rattle.plans.specs.declared.Piece.{Piece}
 use Rattle.plans.specs.declared.Plan.{Plan}
-use Rattle.jobs.specs.Jobs.{is_active, once_released, names}
+use Rattle.jobs.specs.Jobs.{is_active, once_released, names, Runner, Idle, Runs}
 use Rattle.dispatch.specs.States.{job_of}
 use Rattle.dispatch.specs.Rules.{piece_at, stands_on, highest, runs_now, finish}
 use Rattle.jobs.specs.Sets.{member}
@@ -24,8 +24,6 @@ use Rattle.dispatch.specs.Advance.{next_state}
 use Rattle.jobs.specs.declared.Job.{Job}
 use Rattle.jobs.specs.declared.Phase.{Phase}
 use Rattle.jobs.specs.declared.Phase.TheVariants.{Never, Active, Ended}
-use Rattle.jobs.specs.Jobs.{Runner}
-use Rattle.jobs.specs.Jobs.{Idle, Runs}
 use Rattle.dispatch.specs.declared.State.{State}
 use Rattle.jobs.specs.declared.Tasks.{Tasks}
 use Rattle.schedules.specs.Model as model

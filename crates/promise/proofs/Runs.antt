@@ -9,20 +9,18 @@ use borrow.Author.Tests.{ne_eqb}
 use Rattle.tasks.proofs.Below.{any_none, sum_none}
 use Rattle.tasks.proofs.Bools.{clash, not_first}
 use Rattle.tasks.specs.Below.{any, count}
-use Rattle.tasks.specs.Answers.{Answer}
-use Rattle.tasks.specs.Answers.{Accepted, Refused}
+use Rattle.tasks.specs.Answers.{Answer, Accepted, Refused}
 use Rattle.tasks.specs.declared.Refusal.{Refusal}
 use Rattle.tasks.proofs.Tabulate.{replicate_at}
 use Rattle.plans.proofs.InShape.{GoodPlan}
 use Rattle.plans.specs.Pieces.{task_of, piece_of}
 use Rattle.plans.specs.declared.Plan.{Plan}
-use Rattle.jobs.specs.Jobs.{no_job, no_run, names}
+use Rattle.jobs.specs.Jobs.{no_job, no_run, names, Runner}
 use Rattle.dispatch.specs.States.{job_of, fresh_state}
 use Rattle.dispatch.specs.Tick.{judged, answered, tick}
 use Rattle.dispatch.specs.Rules.{each_job, total, turns_late, finish, mark_late, release, run, age, count_preempted}
 use Rattle.jobs.specs.Sets.{member}
 use Rattle.dispatch.specs.Advance.{next_state}
-use Rattle.jobs.specs.Jobs.{Runner}
 use Rattle.jobs.specs.declared.Phase.{Phase}
 use Rattle.jobs.specs.declared.Phase.TheVariants.{Never, Active, Ended}
 use Rattle.dispatch.specs.declared.State.{State}

@@ -16,8 +16,7 @@ use Rattle.tasks.proofs.Refusals.{refuses_make}
 use Rattle.tasks.specs.Below.{any, first}
 use Rattle.tasks.specs.Refusals.{task, number, tells, Refuses}
 use Rattle.tasks.specs.Tables.{task_no, and_then}
-use Rattle.tasks.specs.Answers.{Answer}
-use Rattle.tasks.specs.Answers.{Accepted, Refused}
+use Rattle.tasks.specs.Answers.{Answer, Accepted, Refused}
 use Rattle.tasks.specs.declared.Refusal.{Refusal}
 use Rattle.tasks.specs.declared.Refusal.TheVariants.{NotRun, TooSoon, StillActive}
 use Rattle.tasks.specs.declared.TaskNo.{TaskNo}

@@ -1,14 +1,12 @@
 -- Lists of tick requests, run one after another; a refused one counts for nothing.
 use Rattle.std.specs.Prelude.{Bool, true, false, ◌&&◌, cond, List, [], ◌∷◌, ℕ, ◌+◌, get_or}
 use Rattle.tasks.specs.Below.{any}
-use Rattle.tasks.specs.Answers.{Answer}
-use Rattle.tasks.specs.Answers.{Accepted, Refused}
+use Rattle.tasks.specs.Answers.{Answer, Accepted, Refused}
 use Rattle.plans.specs.declared.Plan.{Plan}
-use Rattle.jobs.specs.Jobs.{no_run, names}
+use Rattle.jobs.specs.Jobs.{no_run, names, Runner}
 use Rattle.jobs.specs.Sets.{member}
 use Rattle.dispatch.specs.States.{fresh_state}
 use Rattle.dispatch.specs.Tick.{tick}
-use Rattle.jobs.specs.Jobs.{Runner}
 use Rattle.dispatch.specs.declared.State.{State}
 use Rattle.jobs.specs.declared.Tasks.{Tasks}
 use Rattle.dispatch.specs.declared.Ticked.{Ticked}

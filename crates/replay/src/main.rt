@@ -53,21 +53,16 @@ fn replay<R: Read>(input: &mut R, plan: Plan, start: usize) {
     console::print(text.said());
 }
 
-// Reads into a buffer as many bytes as are asked for, and says whether they were all there.
-fn fill<R: Read>(input: &mut R, bytes: &mut [u8], n: usize) -> bool {
-    n <= bytes.len() && input.read_exact(&mut bytes[..n]).is_ok()
-}
-
 // The plan file that the input begins with, read, and the place where the ticks begin.
 fn given<R: Read>(input: &mut R) -> Result<(Plan, usize), Refusal> {
     let mut file = io::large_buffer();
-    if !fill(input, &mut file, 2) {
-        return Err(Refusal::CutShort(Place(0)));
-    }
-    let length = file[0] as usize * 256 + file[1] as usize;
-    if !fill(input, &mut file, length) {
-        return Err(Refusal::CutShort(Place(0)));
-    }
+    input
+        .read_exact(&mut file[..2])
+        .map_err(|_| Refusal::CutShort(Place(0)))?;
+    let length = u16::from_be_bytes([file[0], file[1]]) as usize;
+    input
+        .read_exact(&mut file[..length])
+        .map_err(|_| Refusal::CutShort(Place(0)))?;
     let plan = console::plan_in(Default::Eight, &file, length)?;
     Ok((plan, 2 + length))
 }

@@ -1,4 +1,4 @@
-// The second program: reads a plan file from standard input and makes 20 ticks, with every task released as soon as allowed.
+// The runner: reads a plan file from standard input and makes 20 ticks, with every task released as soon as allowed.
 #![tactic(auto)]
 
 use files::Default;

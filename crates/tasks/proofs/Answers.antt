@@ -4,8 +4,7 @@ use mathlib.Core.Bool.{Bool, true, false, cond}
 use Prim.Native.Nat.{ℕ}
 use native.Mathlib.Omega.{arith}
 use Rattle.tasks.specs.Tables.{and_then}
-use Rattle.tasks.specs.Answers.{Answer}
-use Rattle.tasks.specs.Answers.{Accepted, Refused}
+use Rattle.tasks.specs.Answers.{Answer, Accepted, Refused}
 use Rattle.tasks.specs.declared.Refusal.{Refusal}
 
 -- what is refused is not accepted

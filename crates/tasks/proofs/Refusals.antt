@@ -6,8 +6,7 @@ use lib.Dec.{eqb}
 use Rattle.tasks.specs.Places.{place_at}
 use Rattle.tasks.specs.Refusals.{Told, place, task, given, needed, nothing, number, tells, Refuses}
 use Rattle.tasks.specs.Tables.{task_no}
-use Rattle.tasks.specs.Answers.{Answer}
-use Rattle.tasks.specs.Answers.{Refused}
+use Rattle.tasks.specs.Answers.{Answer, Refused}
 use Rattle.tasks.specs.declared.Refusal.{Refusal}
 use Rattle.tasks.specs.declared.Refusal.TheVariants as no
 

@@ -1,7 +1,6 @@
 -- What we say no with: each refusal's number in document 01's table, and what it tells.
 use Rattle.std.specs.Prelude.{◌≡◌, ℕ}
-use Rattle.tasks.specs.Answers.{Answer}
-use Rattle.tasks.specs.Answers.{Refused}
+use Rattle.tasks.specs.Answers.{Answer, Refused}
 use Rattle.tasks.specs.declared.Refusal.{Refusal}
 use Rattle.tasks.specs.declared.Refusal.TheVariants as no
 

@@ -1,8 +1,7 @@
 -- Good tables: the ranges of document 01, and which refusal a record that leaves them gets.
 use Rattle.std.specs.Prelude.{Bool, ◌&&◌, not, cond, ◌≡◌, ℕ, ◌≤◌, ◌<◌, leb, get_or}
 use Rattle.tasks.specs.Below.{any, first}
-use Rattle.tasks.specs.Answers.{Answer}
-use Rattle.tasks.specs.Answers.{Accepted, Refused}
+use Rattle.tasks.specs.Answers.{Answer, Accepted, Refused}
 use Rattle.tasks.specs.declared.Refusal.TheVariants.{CoresGiven, TasksGiven, ValuesOf}
 use Rattle.tasks.specs.declared.Task.{Task}
 use Rattle.tasks.specs.declared.TaskNo.{TaskNo}

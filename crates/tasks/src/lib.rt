@@ -32,6 +32,7 @@ pub const NO_TASK: Task = Task {
 };
 
 // The first `count` of `tasks` are the table's; the others are not read.
+// An array with a count, as in a plan: memory is fixed, and a count above the size is a value that gets its refusal.
 #[derive(Clone, Copy)]
 pub struct Table {
     pub cores: usize,
@@ -60,6 +61,7 @@ pub enum Refusal {
     BufferShort(usize),
 }
 
+// Two methods of one body, and no trait: the types are two so that neither number is taken for the other, and a trait would need both bodies again.
 impl TaskNo {
     // The number as an index into a table's tasks or a state's jobs.
     pub fn index(self) -> usize

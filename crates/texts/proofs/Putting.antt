@@ -1,17 +1,18 @@
 -- Laws of putting texts into lent bytes: one after another, and a number's digits.
-use mathlib.Core.Logic.{◌⊎◌, ⊎_elim}
 use mathlib.Core.Path.{◌≡◌, refl, sym, ap, ◌∙◌}
 use mathlib.Core.Bool.{Bool, true, false, cond}
 use mathlib.Core.List.{List, [], ◌∷◌, ◌++◌, append_assoc, append-nil}
-use Prim.Native.Nat.{ℕ, zero, suc, min, ◌+◌, ◌*◌, ◌-◌, ◌/◌, ◌%◌, ◌≤◌, ◌<◌}
+use Prim.Native.Nat.{ℕ, zero, suc, min, ◌+◌, ◌*◌, ◌-◌, ◌/◌, ◌%◌, ◌^◌, ◌≤◌, ◌<◌}
 use native.Mathlib.Nat.{zero-add, zero-mul, suc-mul, mul-le-mul_right}
 use native.Mathlib.Numerals.{add-one}
 use native.Mathlib.Omega.{arith}
 use native.Mathlib.Decide.{dec_le}
 use lib.Dec.{ltb}
-use lib.ListN.{length, set, take, drop, length-append, length-drop, length-set, drop_of_length-le, take-append-drop}
-use lib.Seq.{set_split, take_all, take_at, drop_at, drop-drop, length-take-le}
+use lib.ListN.{length, take, drop, length-append, length-drop, take-append-drop}
+use lib.Seq.{take_all, take_at, drop_at, drop-drop, length-take-le}
 use borrow.Author.Tests.{le-leb, lt-leb, lt-ltb, le-ltb, ltb-true, ltb-false}
+use Rattle.std.specs.Fmt.{decimal as std_decimal}
+use Rattle.std.proofs.lemmas.Fmt.{decimal_by_steps}
 use Rattle.tasks.specs.Below.{row}
 use Rattle.texts.specs.Text.{put_end, put_in, digits, decimal}
 use Rattle.texts.specs.Puts.{Puts}
@@ -166,46 +167,24 @@ words_put at lent words xs h e =
     let n : at + length words - at ≡ length words = omega arith in
     (sym told.0, rw (n, e, drop-drop) (sym told.1))
 
--- ---- a number's digits, found from the last one on
+-- ---- a number's digits: those that std writes
 
-drop_set : (l : List ℕ) (i a : ℕ) → i < length l → drop i (set l i a) ≡ a ∷ drop (suc i) l
-drop_set l i a h = ap (drop i) (set_split l i a h) ∙ drop_at (take i l) (a ∷ drop (suc i) l) i (length-take-le i l (omega arith))
-
--- the digits that are left and those that are found are the whole number's
-pub record Found (n : ℕ) (bytes : List ℕ) (start rest : ℕ) : Type 0 where
-  pub size : length bytes ≡ 20
-  pub small : start < 20
-  pub same : digits (suc start) rest ++ drop (suc start) bytes ≡ decimal n
-
-pub none_found : (n : ℕ) (bytes : List ℕ) → length bytes ≡ 20 → Found n bytes 19 n
-none_found n bytes e = record { size = e; small = omega arith; same = ap (λ (l : List ℕ). digits 20 n ++ l) (drop_of_length-le bytes {i = 20} (omega arith)) ∙ append-nil (digits 20 n) }
-
-pub more_found : (n : ℕ) (bytes : List ℕ) (start rest : ℕ) → Found n bytes start rest → 0 < start → 10 ≤ rest → Found n (set bytes start (48 + rest % 10)) (start - 1) (rest / 10)
+digits_same : (n : ℕ) → n < 2 ^ 64 → (k : ℕ) → 0 < k → n < 10 ^ k → std_decimal n ≡ digits k n
 unfolding digits
-more_found n bytes zero rest f some more = absurd (omega arith)
-more_found n bytes (suc k) rest f some more =
-    let one : suc k - 1 ≡ k = omega arith in
-    let found : drop (suc k) (set bytes (suc k) (48 + rest % 10)) ≡ (48 + rest % 10) ∷ drop (suc (suc k)) bytes = drop_set bytes (suc k) _ (omega (arith, f.size, f.small)) in
-    record {
-      size = length-set bytes (suc k) (48 + rest % 10) ∙ f.size;
-      small = omega (arith, f.small);
-      same = rw (one, found) (sym (append_assoc (digits (suc k) (rest / 10)) ((48 + rest % 10) ∷ []) _) ∙ rw (le-ltb rest 10 more) at f.same);
-    }
+digits_same = decimal_by_steps (λ m ds. (k : ℕ) → 0 < k → m < 10 ^ k → ds ≡ digits k m) one more
+  where
+    one : (m : ℕ) → m < 10 → (k : ℕ) → 0 < k → m < 10 ^ k → (48 + m) ∷ [] ≡ digits k m
+    one m l zero a b = absurd (omega arith)
+    one m l (suc k) a b = rw (lt-ltb m 10 l) refl
 
--- the first digit of all: the last that is found
-first_digit : (k n : ℕ) (b : Bool) → ltb n 10 ≡ b → (k ≡ 0) ⊎ (n < 10) → digits (suc k) n ≡ (48 + n % 10) ∷ []
-unfolding digits
-first_digit k n true e h = let q : n % 10 ≡ n = omega (arith, ltb-true n 10 e) in rw (e, q)
-first_digit zero n false e h = rw e
-first_digit (suc k) n false e h = absurd (⊎_elim (λ (z : suc k ≡ 0). omega arith) (λ (l : n < 10). omega (arith, ltb-false n 10 e)) h)
+    more : (m : ℕ) (ds : List ℕ) → 10 ≤ m → ((k : ℕ) → 0 < k → m / 10 < 10 ^ k → ds ≡ digits k (m / 10)) → (k : ℕ) → 0 < k → m < 10 ^ k → ds ++ ((48 + m % 10) ∷ []) ≡ digits k m
+    more m ds l h zero a b = absurd (omega arith)
+    more m ds l h (suc zero) a b = absurd (omega arith)
+    more m ds l h (suc (suc k)) a b = rw (le-ltb m 10 l) (ap (λ (x : List ℕ). x ++ ((48 + m % 10) ∷ [])) (h (suc k) (omega arith) (omega arith)))
 
-pub all_found : (n : ℕ) (bytes : List ℕ) (start rest : ℕ) → Found n bytes start rest → (start ≡ 0) ⊎ (rest < 10)
-    → (length (set bytes start (48 + rest % 10)) ≡ 20) × (start ≤ 20) × (drop start (set bytes start (48 + rest % 10)) ≡ decimal n)
-all_found n bytes start rest f h = (
-  length-set bytes start (48 + rest % 10) ∙ f.size,
-  omega (arith, f.small),
-  drop_set bytes start _ (omega (arith, f.size, f.small)) ∙ ap (λ (l : List ℕ). l ++ drop (suc start) bytes) (sym (first_digit start rest _ refl h)) ∙ f.same,
-)
+-- our definition and std's say the same of every number of 64 bits
+pub decimal_same : (n : ℕ) → n < 2 ^ 64 → std_decimal n ≡ decimal n
+decimal_same n h = digits_same n h 20 (omega arith) (omega arith)
 
 -- ---- how long numbers and rows are
 
@@ -226,11 +205,12 @@ module _ {t u v : Text} {a : List ℕ} {m : ℕ} (p : Put t m a u) (all : ℕ) w
   pub put_words : (ws : List ℕ) → Puts (length ws) ws u v → m + length ws ≤ all → t.end + all ≤ length t.bytes.now → Put t all (a ++ ws) v
   put_words ws h = put_next p all (length ws) ws (omega arith) h
 
--- the digits that were found, put as words
-pub digits_put : {t u : Text} (n : ℕ) (bytes : List ℕ) (start k : ℕ) → drop start bytes ≡ decimal n → k ≡ length bytes
-    → Puts (length (take (k - start) (drop start bytes))) (take (k - start) (drop start bytes)) t u → t.end + 20 ≤ length t.bytes.now → Puts 20 (decimal n) t u
-digits_put {t} {u} n bytes start k same full h room =
-    let whole : take (k - start) (drop start bytes) ≡ decimal n = take_all (k - start) (drop start bytes) (omega (arith, length-drop start bytes)) ∙ same in
+-- the digits that std writes at the end of 20 bytes, put as words
+pub digits_put : {t u : Text} (n : ℕ) (bytes : List ℕ) (start : ℕ) → n < 2 ^ 64 → start + length (std_decimal n) ≡ 20 → drop start bytes ≡ std_decimal n ++ []
+    → Puts (length (take (20 - start) (drop start bytes))) (take (20 - start) (drop start bytes)) t u → t.end + 20 ≤ length t.bytes.now → Puts 20 (decimal n) t u
+digits_put {t} {u} n bytes start fits ends same h room =
+    let all : drop start bytes ≡ std_decimal n = same ∙ append-nil (std_decimal n) in
+    let whole : take (20 - start) (drop start bytes) ≡ decimal n = take_all (20 - start) (drop start bytes) (omega (arith, ap length all)) ∙ all ∙ decimal_same n fits in
     let told : Puts (length (decimal n)) (decimal n) t u = rw whole at h in
     put_wider (decimal n) (length (decimal n)) 20 told (digits_few 20 n) room
 

@@ -3,12 +3,13 @@
 // The lines are put by hand, and not by `write!`: of that a clause tells the bytes only for a `String`, which is heap.
 #![tactic(auto)]
 
-ghost use Rattle.std.specs.Prelude.{◌≡◌, ◌++◌, ◌+◌, ◌≤◌, ltb, length, take, drop};
+ghost use Rattle.std.specs.Prelude.{◌≡◌, ◌++◌, ◌+◌, ◌≤◌, ltb, length, take};
 ghost use Rattle.tasks.specs.Refusals.{number as numbered, tells};
 ghost use Rattle.texts.specs.Text.{decimal};
 ghost use Rattle.texts.specs.Puts.{Puts};
 ghost use Rattle.texts.specs.Telling.{told_text, told_most, refusal_text, refusal_most};
 
+use itoa::write_digits;
 use tasks::Refusal;
 
 // Lent bytes, and where the text so far ends in them.
@@ -18,28 +19,14 @@ pub struct Text<'a> {
     pub end: usize,
 }
 
-// A number's decimal digits, which are the bytes from `start` on: memory is fixed, so they stand at the end of an array.
-#[derive(Clone, Copy)]
-struct Digits {
-    bytes: [u8; 20],
-    start: usize,
-}
+// The most digits that a number has.
+pub const NUMBER_MOST: usize = 20;
 
-// The decimal digits of a number, found from the last one on.
-fn digits_of(n: u64) -> Digits
-    ensures { (length result.bytes ≡ 20) × (result.start ≤ 20) × (drop result.start result.bytes ≡ decimal n) }
-{
-    let mut bytes = [b'0'; 20];
-    let mut start: usize = 19;
-    let mut rest = n;
-    while 0 < start && 10 <= rest {
-        bytes[start] = b'0' + (rest % 10) as u8;
-        rest /= 10;
-        start -= 1;
-    }
-    bytes[start] = b'0' + (rest % 10) as u8;
-    Digits { bytes, start }
-}
+// The most bytes that a refusal's number has with what the refusal tells.
+pub const TOLD_MOST: usize = 47;
+
+// The most bytes that a refusal's line has.
+pub const REFUSAL_MOST: usize = 56;
 
 impl Text<'_> {
     // Whether so many bytes from the end on go past the lent bytes.
@@ -72,18 +59,19 @@ impl Text<'_> {
     pub fn number(&mut self, n: u64)
         ensures { Puts 20 (decimal n) self.old self.new }
     {
-        if self.is_short(20) {
+        if self.is_short(NUMBER_MOST) {
             return;
         }
-        let digits = digits_of(n);
-        self.words(&digits.bytes[digits.start..]);
+        let mut digits = [0; NUMBER_MOST];
+        let start = write_digits(n, &mut digits, NUMBER_MOST);
+        self.words(&digits[start..]);
     }
 
     // Puts a refusal's line.
     pub fn refusal(&mut self, refusal: Refusal)
         ensures { Puts refusal_most (refusal_text refusal) self.old self.new }
     {
-        if self.is_short(56) {
+        if self.is_short(REFUSAL_MOST) {
             return;
         }
         self.words(b"refused ");
@@ -96,7 +84,7 @@ impl Text<'_> {
     fn told(&mut self, refusal: Refusal)
         ensures { Puts told_most (decimal (numbered refusal) ++ told_text (tells refusal)) self.old self.new }
     {
-        if self.is_short(47) {
+        if self.is_short(TOLD_MOST) {
             return;
         }
         match refusal {

@@ -7,9 +7,7 @@ use native.Mathlib.Omega.{arith}
 use lib.ListN.{length, get_or, take, length-append}
 use Rattle.plans.specs.Pieces.{task_of}
 use Rattle.plans.specs.declared.Plan.{Plan}
-use Rattle.jobs.specs.Jobs.{no_run}
-use Rattle.jobs.specs.Jobs.{Runner}
-use Rattle.jobs.specs.Jobs.{Idle, Runs}
+use Rattle.jobs.specs.Jobs.{no_run, Runner, Idle, Runs}
 use Rattle.std.specs.Prelude.{Result}
 use Rattle.tasks.specs.declared.Refusal.{Refusal}
 use Rattle.dispatch.specs.declared.State.{State}

@@ -1,9 +1,7 @@
 -- The lines of ticks and their totals, byte for byte.
 use Rattle.std.specs.Prelude.{List, [], ◌++◌, ℕ, zero, suc, min, get_or}
 use Rattle.tasks.specs.Below.{row}
-use Rattle.jobs.specs.Jobs.{no_run}
-use Rattle.jobs.specs.Jobs.{Runner}
-use Rattle.jobs.specs.Jobs.{Idle, Runs}
+use Rattle.jobs.specs.Jobs.{no_run, Runner, Idle, Runs}
 use Rattle.dispatch.specs.declared.State.{State}
 use Rattle.dispatch.specs.declared.Ticked.{Ticked}
 use Rattle.board.specs.Ran.{ran_of}

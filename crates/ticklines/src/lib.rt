@@ -3,7 +3,6 @@
 
 ghost use Rattle.std.specs.Prelude.{◌≡◌};
 ghost use Rattle.texts.specs.Puts.{Puts};
-ghost use Rattle.fullrate.specs.FullRate.{full_tick};
 ghost use Rattle.ticklines.specs.Lines.{gap_text, runner_text, runs_text, ran_text, ran_most, ticked_text, totals_text, totals_most};
 ghost use Rattle.ticklines.specs.Running.{run_text, runner_program_text, runner_most};
 ghost use Rattle.ticklines.specs.Responses.{response_text, response_most, watched_text, watched_most};
@@ -11,7 +10,6 @@ ghost use Rattle.ticklines.specs.Responses.{response_text, response_most, watche
 use board::Ran;
 use dispatch::{State, Ticked};
 use fullrate::Watched;
-use jobs::Tasks;
 use plans::Plan;
 use tasks::{Refusal, TaskNo};
 use texts::Text;
@@ -71,10 +69,7 @@ pub fn ran(text: &mut Text, cores: usize, ran: Ran)
 pub fn ticked(text: &mut Text, cores: usize, ticked: Ticked)
     ensures { Puts ran_most (ticked_text cores ticked) text.old text.new }
 {
-    // By a `let` each: the proof does not take an array of another value straight into a literal.
-    let answer = ticked.answer;
-    let runs = ticked.runs;
-    ran(text, cores, Ran { answer, runs });
+    ran(text, cores, Ran::from(ticked));
 }
 
 // The totals' line: late jobs and preemptions.
@@ -93,17 +88,6 @@ pub fn totals(text: &mut Text, state: State)
 
 // ---- The runner.
 
-// One tick with every task released that may be, and no finishes.
-fn full_tick(plan: Plan, state: State) -> Ticked
-    ensures { result ≡ full_tick plan state }
-{
-    let none = Tasks {
-        members: [TaskNo(0); 64],
-        count: 0,
-    };
-    dispatch::tick(plan, state, none, fullrate::all_allowed(plan, state))
-}
-
 // 20 ticks from a fresh state, and the totals.
 fn run(text: &mut Text, plan: Plan)
     ensures { Puts runner_most (run_text plan 20) text.old text.new }
@@ -113,7 +97,7 @@ fn run(text: &mut Text, plan: Plan)
     }
     let mut state = dispatch::fresh();
     for _n in 0..20u32 {
-        let made = full_tick(plan, state);
+        let made = fullrate::full_tick(plan, state);
         ticked(text, plan.cores, made);
         state = made.state;
     }

@@ -12,10 +12,8 @@ use borrow.Rule.Slice.PartMut.{put_mid}
 use borrow.Author.Tests.{le-leb, lt-leb, leb-true}
 use Rattle.tasks.specs.Below.{row}
 use Rattle.tasks.proofs.Tables.{GoodTable, accepted_good}
-use Rattle.tasks.specs.Tables.{checked_table}
-use Rattle.tasks.specs.Tables.{task_of as task_of_table}
-use Rattle.tasks.specs.Answers.{Answer}
-use Rattle.tasks.specs.Answers.{Accepted, Refused}
+use Rattle.tasks.specs.Tables.{checked_table, task_of as task_of_table}
+use Rattle.tasks.specs.Answers.{Answer, Accepted, Refused}
 use Rattle.tasks.specs.declared.Refusal.{Refusal}
 use Rattle.tasks.specs.declared.Refusal.TheVariants.{BufferShort}
 use Rattle.tasks.specs.declared.Table.{Table}

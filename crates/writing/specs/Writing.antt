@@ -1,8 +1,7 @@
 -- Writing: the answer and the lent buffer after it. Bytes past the length stay as they were, and on a refusal all of them.
 use Rattle.std.specs.Prelude.{Result, Ok, Err, cond, List, ◌++◌, ℕ, leb, length, take, drop}
 use Rattle.tasks.specs.Tables.{checked_table}
-use Rattle.tasks.specs.Answers.{Answer}
-use Rattle.tasks.specs.Answers.{Accepted, Refused}
+use Rattle.tasks.specs.Answers.{Answer, Accepted, Refused}
 use Rattle.tasks.specs.declared.Refusal.{Refusal}
 use Rattle.tasks.specs.declared.Refusal.TheVariants.{BufferShort}
 use Rattle.tasks.specs.declared.Table.{Table}

@@ -1,6 +1,4 @@
-use lib.ListN.{length, take}
 use borrow.Author.Rules.{rules}
-use Rattle.playback.specs.Replay.{Comes, played_in, beginning}
 use native.Mathlib.Omega.{arith}
 use Rattle.texts.proofs.Putting.{no_room, has_room}
 use Rattle.playback.proofs.Course.{playing_within, playing_next, playing_short, playing_stuck, comes_in}
@@ -17,11 +15,7 @@ pub loop-plan-preserved : goal.loop-plan-preserved
 loop-plan-preserved c = playing_next c.loop-plan.invariant _ _ c.judge.ensures c.in-Ok.is _ c.asked-made.ensures (has_room c.is_short.ensures c.loop-plan-test.true) c.ticked.ensures
 
 pub returns : goal.returns
-returns c =
-    let named = c.loop-plan.invariant.lines.lent in
-    let done : Comes c.args.count (take c.args.count c.args.bytes) (played_in c.args.count c.args.plan (length c.args.out.now) (beginning c.args.begun (take c.args.count c.args.bytes))) c.args.out.now c.loop-plan.text.bytes.now (record { state = c.loop-plan.state; at = c.loop-plan.at; length = c.loop-plan.text.end }) =
-    elim c.loop-plan-test.branch [
-      | else-loop-plan-test w ↦ playing_short c.loop-plan.invariant (no_room c.is_short.ensures w.loop-plan-test.false)
-      | then-loop-plan-test+in_default w ↦ playing_stuck c.loop-plan.invariant _ _ w.judge.ensures w.in_default.is
-    ] in
-    comes_in (search rules) done
+returns c = elim c.loop-plan-test.branch [
+  | else-loop-plan-test w ↦ comes_in (search rules) (playing_short c.loop-plan.invariant (no_room c.is_short.ensures w.loop-plan-test.false))
+  | then-loop-plan-test+in_default w ↦ comes_in (search rules) (playing_stuck c.loop-plan.invariant _ _ w.judge.ensures w.in_default.is)
+]

@@ -1,9 +1,9 @@
-use mathlib.Core.Path.{◌≡◌}
-use lib.ListN.{length}
+use lib.ListN.{take}
+use Rattle.std.proofs.lemmas.List.{take_rest}
 use Rattle.playback.proofs.Course.{played_is}
 use Rattle.playback.proofs.play.Goals as goal
 
 pub returns : goal.returns
 returns c =
-    let l : length c.args.player.bytes ≡ 4096 = c.well_formed.1.0.1.1.1.0.1.0.1 in
-    played_is c.args.plan c.args.player _ _ _ _ _ _ l c.min-count.ensures c.advance-reached.ensures c.left.ensures c.further.ensures
+    let rest = take_rest (take c.min.result c.args.player.bytes) c.advance-reached.result.at in
+    played_is c.args.plan c.args.player _ _ _ _ _ _ _ c.min.ensures rest c.advance-reached.ensures c.left.ensures c.further.ensures

@@ -1,7 +1,6 @@
-use mathlib.Core.Path.{sym, ◌∙◌}
+use mathlib.Core.Path.{sym, ◌∙◌, ◌≡◌}
 use Rattle.tasks.proofs.Tables.{bad_cores, bad_count, bad_values, all_good, counts_say}
 use native.Mathlib.Omega.{arith}
-use mathlib.Core.Path.{◌≡◌}
 use Rattle.std.proofs.lemmas.List.{length-take}
 use Rattle.tasks.proofs.Slices.{part_read}
 use Rattle.tasks.specs.Tables.{no_task}

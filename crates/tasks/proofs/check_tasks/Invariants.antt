@@ -1,9 +1,8 @@
-use Rattle.tasks.specs.Tables.{cores_fit, tasks_fit}
+use Rattle.tasks.specs.Tables.{cores_fit, tasks_fit, no_task, values_fit}
 use Prim.Native.Nat.{ℕ, ◌<◌}
 use mathlib.Core.Path.{◌≡◌}
 use mathlib.Core.Bool.{true}
 use lib.ListN.{get_or}
-use Rattle.tasks.specs.Tables.{no_task, values_fit}
 use Rattle.tasks.proofs.check_tasks.Given as goal
 
 abbrev pub invariant-loop-i : goal.invariant-loop-i
