@@ -224,6 +224,7 @@ impl State {
 }
 
 // ---- The rules for one job.
+// Each is told whether its task is among those that it speaks of, as its definition asks by `member`.
 
 // Rule 1 for one job, whose task is among the finished ones or not.
 fn finished_job(job: Job, finished: bool) -> Job
@@ -261,7 +262,7 @@ fn released_job(job: Job, released: bool, first: u8) -> Job
     }
 }
 
-// The first piece of each task, in one walk over the pieces from the last to the first.
+// The first piece of each task, in one walk over the pieces from the last to the first; the plan's count where there is none, as `first_piece` says it.
 fn first_pieces(plan: Plan) -> [u8; 256]
     requires { plan.placed ≤ 128 }
     ensures { result ≡ tabulate 256 (first_piece plan) }
@@ -304,7 +305,7 @@ fn aged_job(mut job: Job, period: u32) -> Job
 
 // ---- The choice of what runs on each core.
 
-// Where a job stands: whether it is active, its piece, whether its task has one after that, and its task's deadline.
+// Where a job stands, active or not, since a runner is looked up here by its number: whether it is active, its piece, whether its task has one after that, and its task's deadline.
 #[derive(Clone, Copy)]
 struct Stand {
     active: bool,

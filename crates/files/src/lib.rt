@@ -37,6 +37,8 @@ pub struct Reader {
     pub plan: Plan,
 }
 
+// Two numbers and two functions: they differ in the library's call and in the type that it gives, and share no step.
+
 // The number of two bytes from `i` on.
 fn number2_at(bytes: [u8; 15], i: usize) -> u16
     requires { i + 2 ≤ 15 }

@@ -66,6 +66,7 @@ pub fn interferes(e: u32, p: u32, l: u32) -> u32
 }
 
 // Does piece a outrank piece b, their tasks' deadlines being given?
+// A deadline stands beside its piece, which does not hold it: so the public clause names the two.
 pub fn outranks(a: Piece, a_deadline: u32, b: Piece, b_deadline: u32) -> bool
     ensures { result ≡ rank.outranks a.kind a_deadline a.task.0 b.kind b_deadline b.task.0 }
 {

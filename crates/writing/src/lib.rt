@@ -117,6 +117,8 @@ fn put_table(out: &mut [u8], cores: usize, count: usize, tasks: [Task; 64]) -> u
     put_all(out, 4, &tasks[..count])
 }
 
+// Two public names for two records; what their writing shares is `put_table` and `put_all`, and what is left differs in the check and in the length.
+
 // Writes a table into a lent buffer: any record and any buffer.
 #[tactic(auto, using(crate::proofs::Writing::table_small))]
 pub fn write_table(table: Table, out: &mut [u8]) -> Result<usize, Refusal>
