@@ -18,7 +18,7 @@ pub struct Field {
     // pieces may stand after all tasks: it is a plan file
     pub pieces: bool,
     // 0 as long as no field was bad; otherwise the number of the first bad one's refusal
-    // a number and no enum, here and in the calls that give it: a reader made by hand may hold any number, and `feed` takes it
+    // a number and no enum, here, in the calls that give it and in `refusal`, which takes it: a reader made by hand may hold any number, and `feed` takes it
     pub bad: usize,
     pub place: usize,
     // the place where the tasks end: the field's own until a piece was read

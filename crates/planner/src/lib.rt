@@ -20,7 +20,7 @@ use plans::{Kind, NO_PIECE, Piece, Plan};
 use tasks::{CoreNo, NO_TASK, Refusal, Table, TaskNo};
 
 // A plan while it is laid out: its pieces so far, and which cores are closed.
-// What is asked of it (`Ready`, `Alone`) stands in the clauses and in no ghost field, since it is asked for the task that is placed next.
+// What is asked of it (`Ready`, `Alone`) stands in the clauses and in no ghost field, since it is asked for the task that is placed next; `Moderate` as the head of `bounds` says.
 #[derive(Clone, Copy)]
 struct Draft {
     plan: Plan,

@@ -35,6 +35,7 @@ pub const NO_PIECE: Piece = Piece {
 };
 
 // The first `count` of `tasks` and the first `placed` of `pieces` are the plan's; the others are not read.
+// Arrays with counts, as in a table: memory is fixed, and a count above the size is a value that gets its refusal.
 // The table's fields lie flat beside the pieces: each definition names them so, and a reader fills them before there is a table.
 #[derive(Clone, Copy)]
 pub struct Plan {

@@ -1,6 +1,6 @@
 // Texts that a program prints, made of words and numbers in lent bytes, and the line of a refusal.
 // A text is put in where the text so far ends, and the text so far then ends after it. Where the longest text of its kind has no room, nothing is put.
-// Each text has a function of its own that asks for its own room first, as its clause names it; a closure in its place would have that clause to state again.
+// Each text of several parts has a function of its own that asks for its own room first, as its clause names it; a closure in its place would have that clause to state again.
 // The lines are put by hand, and not by `write!`: of that a clause tells the bytes only for a `String`, which is heap.
 #![tactic(auto)]
 

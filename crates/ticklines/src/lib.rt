@@ -1,5 +1,5 @@
 // The lines of ticks and their totals, what the runner prints, and the responses of a watched run, put into a text. Where the longest text of its kind has no room, nothing is put.
-// Each function asks for its own room first: why, the head of `texts` says.
+// Each function that puts more than one text asks for its own room first: why, the head of `texts` says.
 #![tactic(auto)]
 
 ghost use Rattle.std.specs.Prelude.{◌≡◌};
