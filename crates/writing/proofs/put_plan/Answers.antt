@@ -8,10 +8,6 @@ use lib.ListN.{length}
 use lib.Seq.{length-take-le}
 use Rattle.writing.proofs.put_plan.Goals as goal
 
-pub put_all-requires : goal.put_all-requires
-put_all-requires c =
-    let l : length c.args.plan.pieces ≡ 128 = c.well_formed.1.0.1.1.1.1.1.1.0.1.0.1 in omega (arith, length-take-le c.args.plan.placed c.args.plan.pieces (omega (arith, l)))
-
 pub returns : goal.returns
 returns c =
     let l : length c.args.plan.pieces ≡ 128 = c.well_formed.1.0.1.1.1.1.1.1.0.1.0.1 in
