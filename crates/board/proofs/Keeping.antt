@@ -80,7 +80,7 @@ abbrev lender : Ty
 lender = ty_ref erased mut (pointee (S.the_row).written)
 
 -- the function, with what was seen, the plan, the record and the number of ticks for parameters
-abbrev keeping : Ty → Ty → Callee → Callee → Callee → Callee → Fn
+abbrev pub keeping : Ty → Ty → Callee → Callee → Callee → Callee → Fn
 keeping X Y F R S E = record {
   lifetimes = 0;
   outlives = [];

@@ -1,4 +1,4 @@
--- The contract of `step` settles its result and the lent record; on a refusal the record is as it was and nothing runs.
+-- The contract of `step` settles its result and the lent record, and the law of `Ran::from` its result; on a refusal the record is as it was and nothing runs.
 use mathlib.Core.Path.{◌≡◌, sym, ◌∙◌, ap}
 use lib.ListN.{replicate}
 use Rattle.tasks.specs.Answers.{Refused}
@@ -8,6 +8,7 @@ use Rattle.plans.specs.declared.Plan.{Plan}
 use Rattle.jobs.specs.Jobs.{no_run}
 use Rattle.dispatch.specs.Tick.{tick}
 use Rattle.dispatch.specs.declared.State.{State}
+use Rattle.dispatch.specs.declared.Ticked.{Ticked}
 use Rattle.jobs.specs.declared.Tasks.{Tasks}
 use Rattle.dispatch.proofs.Kept.{refused_nothing}
 use Rattle.board.specs.Ran.{ran_of}
@@ -25,3 +26,7 @@ module _ (p : Plan) (s : State) (fs rs : Tasks) where
   refused_stays r n x h e =
       let said = refused_nothing p s fs rs x (sym (ap (λ (u : Ran). u.answer) h.0) ∙ e) in
       (h.1 ∙ said.0, ap (λ (u : Ran). u.runs) h.0 ∙ said.1)
+
+-- what `Ran::from` gives, by its law
+pub from_settled : (t : Ticked) (r r' : Ran) → r ≡ ran_of t → r' ≡ ran_of t → r ≡ r'
+from_settled t r r' h h' = settled h h'

@@ -59,10 +59,12 @@ module _ (t : Table) (p : Plan) (h : planned t ≡ Ok p) where
   reads_back c e n w = plan_out_and_in c p e (plan_filled p e) n (plan_read c (take n (plan_filled p e))) (sym w) refl refl ∙ ap (λ (v : Plan). Ok v) same
 
 -- bytes that are a table file whose table is planned: all of the chain holds
-pub bytes_to_deadlines : (d : Default) (s : List ℕ) (t : Table) (p : Plan) → Slice s → table_read d s ≡ Ok t → planned t ≡ Ok p → Served t p
+pub bytes_to_deadlines : (d : Default) (s : List ℕ) (t : Table) (p : Plan) → Slice s → table_read d s ≡ Ok t → planned t ≡ Ok p → Served d s t p
 bytes_to_deadlines d s t p lent a h =
     let promised : PlanOf t p × Demand3 p = no_job_is_late t p h in
     record {
+      held = a;
+      laid = h;
       good = table_is_good d s lent t a;
       plan = promised.0;
       room = taken t p h;

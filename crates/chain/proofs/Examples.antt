@@ -84,5 +84,5 @@ unfolding planned start lay_first place takes_whole share_from give_share close 
 three_planned = refl
 
 -- so the chain holds of them
-pub three_served : Served three_table three_plan
+pub three_served : Served Eight three three_table three_plan
 three_served = bytes_to_deadlines Eight three three_table three_plan lent three_read three_planned

@@ -4,7 +4,8 @@ use Rattle.tasks.specs.Tables.{checked_table}
 use Rattle.tasks.specs.Answers.{Accepted}
 use Rattle.tasks.specs.declared.Table.{Table}
 use Rattle.plans.specs.declared.Plan.{Plan}
-use Rattle.files.specs.Files.{plan_read}
+use Rattle.planner.specs.Layout.{planned}
+use Rattle.files.specs.Files.{table_read, plan_read}
 use Rattle.files.specs.declared.Default.{Default}
 use Rattle.writing.specs.Fields.{plan_bytes}
 use Rattle.writing.specs.Writing.{plan_written, plan_filled}
@@ -17,8 +18,11 @@ use Rattle.promise.specs.Demand3.{Demand3, PlanOf}
 use Rattle.promise.specs.Requests.{reached}
 use Rattle.chain.specs.Asked.{asked_in}
 
--- what holds of a table and a plan: `bytes_to_deadlines` says it of the table that bytes hold and of the planner's plan for it
-pub record Served (t : Table) (p : Plan) : Type 1 where
+-- what holds of bytes, read with the stated default, of a table and of a plan
+pub record Served (d : Default) (s : List ℕ) (t : Table) (p : Plan) : Type 1 where
+  -- the bytes hold the table, and the planner makes the plan for it
+  pub held : table_read d s ≡ Ok t
+  pub laid : planned t ≡ Ok p
   -- the table is good, and the plan is one of it
   pub good : checked_table t ≡ Accepted
   pub plan : PlanOf t p

@@ -207,9 +207,9 @@ impl Field {
 
     // What is read so far, with this good field added.
     #[tactic(auto, unfolding(crate::specs::Fields::added, crate::specs::Fields::piece_taken))]
-    fn added(self, mut plan: Plan) -> Plan
-        requires { (tag self ≡ 3 → ⊥) → (tag self ≡ 1 → ⊥) → plan.count < 64 }
-        ensures { result ≡ added self plan }
+    fn add_to(self, plan: &mut Plan)
+        requires { (tag self ≡ 3 → ⊥) → (tag self ≡ 1 → ⊥) → plan.old.count < 64 }
+        ensures { plan.new ≡ added self plan.old }
     {
         match self.tag() {
             Some(Tag::Piece) => {
@@ -220,17 +220,14 @@ impl Field {
                     plan.pieces[n] = piece;
                     plan.placed = n + 1;
                 }
-                plan
             }
             Some(Tag::Cores) => {
                 plan.cores = self.bytes[3] as usize;
-                plan
             }
             _ => {
                 let n = plan.count;
                 plan.tasks[n] = self.task();
                 plan.count = n + 1;
-                plan
             }
         }
     }
@@ -250,7 +247,7 @@ pub fn feed(reader: Reader, part: &[u8]) -> Reader
         let found = f.verdict(plan.count);
         if found == 0 {
             let placed = plan.placed;
-            plan = f.added(plan);
+            f.add_to(&mut plan);
             f = f.next(placed);
         } else if found != 1 {
             f.bad = found;

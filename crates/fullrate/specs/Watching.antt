@@ -1,5 +1,5 @@
--- A run at full rate as a loop that keeps one record: what is asked in each tick, and the longest responses, which are seen in it.
-use Rattle.std.specs.Prelude.{List, ℕ, min, max, get_or}
+-- A run at full rate as a loop that keeps one record: what is asked in each tick, and what is seen in it.
+use Rattle.std.specs.Prelude.{ℕ, min, max, get_or}
 use Rattle.tasks.specs.Below.{padded}
 use Rattle.plans.specs.declared.Plan.{Plan}
 use Rattle.dispatch.specs.declared.State.{State}
@@ -8,6 +8,7 @@ use Rattle.board.specs.Kept.{kept_for}
 use Rattle.board.specs.declared.Ran.{Ran}
 use Rattle.fullrate.specs.Allowed.{no_tasks, allowed_set}
 use Rattle.fullrate.specs.Watched.{seen}
+use Rattle.fullrate.specs.declared.Seen.{Seen}
 use Rattle.fullrate.specs.declared.Watched.{Watched}
 
 -- whatever was seen so far: none is finished, and every task is released that may be
@@ -17,12 +18,12 @@ none_finished x p s = no_tasks
 abbrev pub all_released : {X : Type 0} → X → Plan → State → Tasks
 all_released x p s = allowed_set p s
 
-abbrev pub saw : List ℕ → Plan → Ran → State → List ℕ
-saw x p r s = padded 64 (min p.count 64) 0 (λ i. max (get_or x i 0) (seen p.cores r.runs s i))
+abbrev pub saw : Seen → Plan → Ran → State → Seen
+saw x p r s = record { longest = padded 64 (min p.count 64) 0 (λ i. max (get_or x.longest i 0) (seen p.cores r.runs s i)) }
 
-abbrev pub watched_at : List ℕ → State → Watched
-watched_at x s = record { state = s; longest = x }
+abbrev pub watched_at : Seen → State → Watched
+watched_at x s = record { state = s; longest = x.longest }
 
 -- n ticks from a state
-abbrev pub watched_from : List ℕ → Plan → State → ℕ → Watched
+abbrev pub watched_from : Seen → Plan → State → ℕ → Watched
 watched_from x p s n = watched_at (kept_for none_finished all_released saw p n x s).0 (kept_for none_finished all_released saw p n x s).1

@@ -3,10 +3,10 @@
 
 ghost use Rattle.std.specs.Prelude.{◌≡◌, true, false, eqb};
 ghost use Rattle.jobs.specs.Jobs.{by_phase};
-ghost use Rattle.fullrate.specs.Allowed.{allowed_set};
+ghost use Rattle.fullrate.specs.Allowed.{no_tasks, allowed_set};
 ghost use Rattle.fullrate.specs.FullRate.{full_tick};
 ghost use Rattle.fullrate.specs.Watched.{ran_in, watched};
-ghost use Rattle.fullrate.specs.Watching.{saw, watched_from};
+ghost use Rattle.fullrate.specs.Watching.{saw, watched_at, watched_from};
 
 use board::Ran;
 use dispatch::{State, Ticked};
@@ -64,35 +64,68 @@ fn ran_in(cores: usize, runs: [Option<TaskNo>; 16], task: TaskNo) -> bool
     runs[..cores.min(16)].contains(&Some(task))
 }
 
-// The longest response of each task so far, with what is seen in a tick: a job's age if it ran.
-fn see(longest: [u32; 64], plan: Plan, ran: Ran, state: State) -> [u32; 64]
-    ensures { result ≡ saw longest plan ran state }
+// The longest response seen of each task so far.
+#[derive(Clone, Copy)]
+struct Seen {
+    longest: [u32; 64],
+}
+
+// What `watch_from` asks and sees in each tick, and what it ends with, stand in functions of their own: so its code is that of which `keeps_meet` (`board`) speaks.
+
+// No task is finished.
+fn none_finished(_seen: Seen, _plan: Plan, _state: State) -> Tasks
+    ensures { result ≡ no_tasks }
 {
-    let mut more = [0; 64];
+    NO_TASKS
+}
+
+// Every task is released that may be.
+fn all_released(_seen: Seen, plan: Plan, state: State) -> Tasks
+    ensures { result ≡ allowed_set plan state }
+{
+    all_allowed(plan, state)
+}
+
+// What is seen in a tick: the longest response of each task so far, with a job's age if it ran.
+fn see(seen: Seen, plan: Plan, ran: Ran, state: State) -> Seen
+    ensures { result ≡ saw seen plan ran state }
+{
+    let mut longest = [0; 64];
     for i in 0..plan.count.min(64) {
         let runs = ran_in(plan.cores, ran.runs, TaskNo(i as u8));
         let response = if runs { state.jobs[i].age } else { 0 };
-        more[i] = longest[i].max(response);
+        longest[i] = seen.longest[i].max(response);
     }
-    more
+    Seen { longest }
+}
+
+// What was seen, and the last state.
+fn watched_at(seen: Seen, state: State) -> Watched
+    ensures { result ≡ watched_at seen state }
+{
+    let longest = seen.longest;
+    Watched { state, longest }
 }
 
 // So many ticks at full rate from a state, which is the record that is kept here and stepped where it stands.
-fn watch_from(mut longest: [u32; 64], plan: Plan, mut state: State, ticks: usize) -> Watched
-    ensures { result ≡ watched_from longest plan state ticks }
+fn watch_from(mut seen: Seen, plan: Plan, mut state: State, ticks: usize) -> Watched
+    ensures { result ≡ watched_from seen plan state ticks }
 {
-    for _n in 0..ticks {
-        let released = all_allowed(plan, state);
-        let ran = board::step(&mut state, plan, NO_TASKS, released);
-        let seen = see(longest, plan, ran, state);
-        longest = seen;
+    let mut n: usize = 0;
+    while n < ticks {
+        let finished = none_finished(seen, plan, state);
+        let released = all_released(seen, plan, state);
+        let ran = board::step(&mut state, plan, finished, released);
+        seen = see(seen, plan, ran, state);
+        n += 1;
     }
-    Watched { state, longest }
+    watched_at(seen, state)
 }
 
 // So many ticks from a fresh state at full rate.
 pub fn watch(plan: Plan, ticks: usize) -> Watched
     ensures { result ≡ watched plan ticks }
 {
-    watch_from([0; 64], plan, dispatch::fresh(), ticks)
+    let seen = Seen { longest: [0; 64] };
+    watch_from(seen, plan, dispatch::fresh(), ticks)
 }

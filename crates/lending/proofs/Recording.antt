@@ -27,7 +27,7 @@ unfolding shape
 shape_long m count ts pc n h = rw (le-leb 1 n (omega arith), lt-leb n 128 h)
 
 module _ (t : Table) (ys : List Piece) where
-  few_same : length ys ≤ 128 → SamePlan (recorded t ys) (lent_plan t ys)
+  pub few_same : length ys ≤ 128 → SamePlan (recorded t ys) (lent_plan t ys)
   unfolding recorded
   few_same h = record {
     cores = refl;
@@ -44,7 +44,7 @@ module _ (t : Table) (ys : List Piece) where
     shape_long t.cores t.count (task_of (lent_plan t ys)) (piece_of (lent_plan t ys)) (length ys) h,
   )
 
-  checked_lent : checked_plan (recorded t ys) ≡ checked_plan (lent_plan t ys)
+  pub checked_lent : checked_plan (recorded t ys) ≡ checked_plan (lent_plan t ys)
   checked_lent = go (dec_lt 128 (length ys))
     where
       go : Dec (128 < length ys) → checked_plan (recorded t ys) ≡ checked_plan (lent_plan t ys)

@@ -7,7 +7,7 @@ use Prim.Native.Nat.{ℕ, zero, suc, ◌+◌, ◌<◌, ◌≤◌, ◌^◌}
 use native.Mathlib.Nat.{add-zero, zero-add, lt_irrefl}
 use native.Mathlib.Omega.{arith}
 use lib.Dec.{ltb, lt→ltb, ltb→lt, lit<}
-use lib.ListN.{length, get_or}
+use lib.ListN.{length}
 use lib.WfN.{lt-wf_rel}
 use seplogic.Ra.Ura.{Ura}
 use base.Fraction.{full_share}
@@ -44,9 +44,11 @@ use Rattle.tasks.proofs.Table.TheLaws as T'
 use Rattle.bounds.specs.contracts.Bounding as B
 use Rattle.bounds.proofs.Bounding.TheLaws as B'
 use Rattle.plans.specs.contracts.Piece as Z
+use Rattle.lending.specs.contracts.Adding as D
+use Rattle.lending.proofs.Adding.TheLaws as D'
 use Rattle.plans.proofs.Piece.TheLaws as Z'
 use Rattle.board.proofs.Walk.{Held, struct, passes, answers, beside, turned, still, word, one_more, holds, fails}
-use Rattle.plans.specs.Pieces.{no_piece}
+use Rattle.lending.specs.Adding.{lent_piece, up_to}
 
 -- ---- the plain types that the walks are about
 abbrev pub tables : Held
@@ -55,18 +57,11 @@ tables = struct T.the_type T'.the_laws T'.the_plain T'.mir refl
 abbrev pub pieces : Held
 pieces = struct Z.the_type Z'.the_laws Z'.the_plain Z'.mir refl
 
+abbrev pub addings : Held
+addings = struct D.the_type D'.the_laws D'.the_plain D'.mir refl
+
 abbrev pub boundings : Held
 boundings = struct B.the_type B'.the_laws B'.the_plain B'.mir refl
-
--- ---- what is added up over a list
--- the piece at place j of a lent list
-abbrev pub lent_piece : List Piece → ℕ → Piece
-lent_piece ys j = get_or ys j no_piece
-
--- what a and the first n pieces of a lent list, one after another, come to by f
-abbrev pub up_to : {A : Type 0} → (A → Piece → A) → ℕ → A → List Piece → A
-up_to f zero a ys = a
-up_to f (suc n) a ys = f (up_to f n a ys) (lent_piece ys n)
 
 -- ---- a lent list of pieces
 -- the machine type and value of a lent list of pieces, what it owns, and the token of its lifetime
@@ -152,7 +147,7 @@ abbrev rest : Code
 rest = seq (assign (place 0 []) (rv_opd (copy (place 1 [])))) return
 
 -- the function: its sum is a parameter, and it loops over the list's first n pieces
-abbrev summing : Ty → Callee → Callee → Fn
+abbrev pub summing : Ty → Callee → Callee → Fn
 summing τ reads each = record {
   lifetimes = 1;
   outlives = [];

@@ -1,2 +1,3 @@
 pub mod Recorded
+pub mod Adding
 pub mod Lent

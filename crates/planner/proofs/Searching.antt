@@ -1,5 +1,5 @@
 -- The shared search from core to core: what is kept on the way, and what each way out of a core gives.
-use mathlib.Core.Path.{◌≡◌, refl, ◌∙◌}
+use mathlib.Core.Path.{◌≡◌, refl, ap, ◌∙◌}
 use mathlib.Core.Bool.{true, false, ◌||◌, cond}
 use mathlib.Core.Logic.{◌⊎◌, inl, inr}
 use Rattle.std.specs.Prelude.{None, Some}
@@ -28,6 +28,20 @@ pub record Sharing (d : Draft) (i p need : ℕ) (e : Draft) (x : ℕ) : Type 0 w
   pub pieces : length e.plan.pieces ≡ 128
   pub cores : length e.closed ≡ 16
   pub same : share_from d i (task_of d.plan i).cost 0 d.plan.cores ≡ share_from e i need x (d.plan.cores - x)
+
+-- the search begins at core 0, with the draft as it is and the whole cost needed
+pub begun : (d : Draft) (i : ℕ) → d.plan.placed ≤ 80 → Ready d.plan i → length d.plan.pieces ≡ 128 → length d.closed ≡ 16 → Sharing d i (task_of d.plan i).period (task_of d.plan i).cost d 0
+begun d i few r l k = record {
+  board = r.cores;
+  some = r.some;
+  least = omega arith;
+  period = refl;
+  few = omega arith;
+  ready = r;
+  pieces = l;
+  cores = k;
+  same = ap (share_from d i (task_of d.plan i).cost 0) (omega arith);
+}
 
 module _ {d : Draft} {i p need : ℕ} {e : Draft} {x : ℕ} (s : Sharing d i p need e x) where
   -- the cores have run out

@@ -82,7 +82,7 @@ playing_none p bytes t s e = record {
 }
 
 module _ {p : Plan} {bytes : List ℕ} {t : Text} {whole : Standing} {u : Text} {state : State} {at : ℕ} (y : Playing p bytes t whole u state at) where
-  hand : take (length bytes - at) (drop at bytes) ≡ y.z.left
+  pub hand : take (length bytes - at) (drop at bytes) ≡ y.z.left
   hand = take_rest bytes at ∙ y.lefts
 
   room_is : u.end ≡ length y.z.said

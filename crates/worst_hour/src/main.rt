@@ -46,19 +46,24 @@ fn eight_cores() -> Table {
     }
 }
 
-// The lent bytes have room for every listing and for all of a watched run.
+// The lent bytes have room for every listing and for all of a watched run. The plan is printed before its run begins, and each text stands at their beginning.
 fn show(table: Table) {
     let mut bytes = [0u8; 16384];
-    let mut text = Text {
+    let planned = planner::plan_table(table);
+    let mut listed = Text {
         bytes: &mut bytes,
         end: 0,
     };
-    let planned = planner::plan_table(table);
-    planlines::planned(&mut text, planned);
+    planlines::planned(&mut listed, planned);
+    console::print(listed.said());
     if let Ok(plan) = planned {
-        ticklines::watched(&mut text, plan, fullrate::watch(plan, 100000));
+        let mut told = Text {
+            bytes: &mut bytes,
+            end: 0,
+        };
+        ticklines::watched(&mut told, plan, fullrate::watch(plan, 100000));
+        console::print(told.said());
     }
-    console::print(text.said());
 }
 
 fn main() {

@@ -6,14 +6,14 @@ use mathlib.Core.Path.{◌≡◌, sym, ap, ◌∙◌}
 use Rattle.files.proofs.feed.Goals as goal
 use Rattle.files.proofs.feed.Goals.{Joined-found-eq0, then-found-eq0, else-found-eq0+then-found-ne1, else-found-eq0+else-found-ne1}
 
-pub added-plan-requires : goal.added-plan-requires
-added-plan-requires c = good_room _ _ (sym c.verdict-found.ensures ∙ c.if-found-eq0.true)
+pub add_to-requires : goal.add_to-requires
+add_to-requires c = good_room _ _ (sym c.verdict-found.ensures ∙ c.if-found-eq0.true)
 
 -- what the verdict makes of the reader
 settles : (c : Joined-found-eq0) → reader c.if-found-eq0.f c.if-found-eq0.plan ≡ settled c.verdict-found.result c.hold-f.result c.loop-byte.plan
 settles c =
     elim c.if-found-eq0.branch [
-      | then-found-eq0 w ↦ rw (w.f-is, w.plan-is, w.if-found-eq0.true, w.next-f.ensures, w.added-plan.ensures)
+      | then-found-eq0 w ↦ rw (w.f-is, w.plan-is, w.if-found-eq0.true, w.next-f.ensures, w.add_to.ensures)
       | else-found-eq0+then-found-ne1 w ↦ rw (w.f-is, w.plan-is, settled_bad c.verdict-found.result c.hold-f.result c.loop-byte.plan w.if-found-eq0.false w.if-found-ne1.true)
       | else-found-eq0+else-found-ne1 w ↦ rw (w.f-is, w.plan-is, w.if-found-ne1.false)
     ]

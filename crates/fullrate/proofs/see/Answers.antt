@@ -19,4 +19,4 @@ pub loop-i-init : goal.loop-i-init
 loop-i-init c = (c.min-i-end.ensures, padded_start 64 0 _)
 
 pub loop-i-preserved : goal.loop-i-preserved
-loop-i-preserved c = (c.loop-i.invariant.0, padded_turn 64 0 _ _ _ _ (omega arith) c.loop-i.invariant.1 (c.max.ensures ∙ ap (max (get_or c.args.longest c.loop-i.i 0)) (response c)))
+loop-i-preserved c = (c.loop-i.invariant.0, padded_turn 64 0 _ _ _ _ (omega arith) c.loop-i.invariant.1 (c.max.ensures ∙ ap (max (get_or c.args.seen.longest c.loop-i.i 0)) (response c)))
